@@ -37,11 +37,11 @@ fn the_silence_frame_is_packed(rt: HostRuntime) -> Result<(), Fail> {
     let part = quiet([4, 3, 4, 3, 4, 3, 4, 3, 4, 3, 4, 3, 4]);
     let fields = Params::of([42, 39, 21, 10, 9, 4, 3, 2], [part; 4]).ok_or("within")?;
     let octets = *pack(&fields).octets();
-    assert_eq!(rt; octets[..5], [0xDA, 0xA7, 0xAA, 0xA5, 0x1A]);
+    assert_eq!(rt; octets[..5], *[0xDA, 0xA7, 0xAA, 0xA5, 0x1A].as_slice());
     for start in [5, 12, 19, 26] {
         assert_eq!(rt;
             octets[start..start + 7],
-            [0x50, 0x00, 0x47, 0x1C, 0x71, 0xC7, 0x1C]
+            *[0x50, 0x00, 0x47, 0x1C, 0x71, 0xC7, 0x1C].as_slice()
         );
     }
     Ok(())
