@@ -1,3 +1,6 @@
 pub mod Machine
 pub mod History
 pub mod Line
+pub mod Pairs
+pub mod Inside
+pub mod Plays
