@@ -1,0 +1,17 @@
+//! Full-rate frames: 33 octets each, and the fields that they spell.
+#![tactic(auto)]
+
+mod bits;
+mod codes;
+mod frame;
+mod item;
+mod packing;
+mod params;
+
+pub use frame::{BadSignature, Frame33, frame_of};
+pub use item::Item;
+pub use packing::{pack, unpack};
+pub use params::{Params, SubParams};
+
+#[cfg(test)]
+mod tests;

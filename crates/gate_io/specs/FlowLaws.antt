@@ -1,0 +1,27 @@
+-- Several takes or gives, one after the other, are one.
+use Rattle.std.proofs.Common.{◌≡◌, ℕ, zero, suc, ◌+◌, List, [], ◌∷◌, ◌++◌, length, take, Option, refl, sym, ap, subst}
+use Rattle.std.specs.Io.KnownBytes.{Appends, Consumes}
+use Rattle.std.proofs.KnownBytes.{Appends-trans, Consumes-trans}
+use Rattle.std.proofs.Math.Seq.{take-append-add, take-length}
+use Rattle.gate_io.specs.Flow.{AppendsPart, ConsumesSome}
+
+-- a front of what was to be given is a front of more
+pub AppendsPart-longer : (a b : Option (List ℕ)) (bs cs : List ℕ) → AppendsPart a b bs → AppendsPart a b (bs ++ cs)
+AppendsPart-longer a b bs cs p = (length (take p.0 bs), subst (Appends a b) (shorter p.0 bs cs) p.1)
+  where
+    shorter : (k : ℕ) (bs cs : List ℕ) → take k bs ≡ take (length (take k bs)) (bs ++ cs)
+    shorter zero bs cs = refl
+    shorter (suc k) [] cs = refl
+    shorter (suc k) (x ∷ bs) cs = ap (λ (l : List ℕ). x ∷ l) (shorter k bs cs)
+
+-- a whole piece and then a front of the next
+pub AppendsPart-after : (a b c : Option (List ℕ)) (bs cs : List ℕ) → Appends a b bs → AppendsPart b c cs → AppendsPart a c (bs ++ cs)
+AppendsPart-after a b c bs cs p q = (length bs + q.0, subst (Appends a c) (sym (take-append-add bs cs q.0)) (Appends-trans a b c bs (take q.0 cs) p q.1))
+
+-- a whole piece is a front of itself
+pub AppendsPart-whole : (a b : Option (List ℕ)) (bs : List ℕ) → Appends a b bs → AppendsPart a b bs
+AppendsPart-whole a b bs p = (length bs, subst (Appends a b) (sym (take-length bs)) p)
+
+-- some octets behind those that were taken
+pub ConsumesSome-after : (a b c : Option (List ℕ)) (bs : List ℕ) → Consumes a b bs → ConsumesSome b c → ConsumesSome a c
+ConsumesSome-after a b c bs p q = (bs ++ q.0, Consumes-trans a b c bs q.0 p q.1)

@@ -1,0 +1,15 @@
+// What becomes of a frame that is filed.
+
+/// The answer to a filed frame of a number. Only `Accepted` changes the line.
+#[derive(Clone, Copy, Debug, Default, PartialEq, Eq)]
+pub enum FileReply {
+    /// The frame was taken, and is played at the tick of its number.
+    #[default]
+    Accepted,
+    /// A frame of this number is there already.
+    Duplicate,
+    /// The number's tick is past. `ahead` is the next number of its slot that is still to come.
+    Late { ahead: u64 },
+    /// The number is behind the window. `ahead` is the number that its slot waits for.
+    Beyond { ahead: u64 },
+}
