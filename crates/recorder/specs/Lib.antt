@@ -1,0 +1,5 @@
+pub mod Fields
+pub mod Heads
+pub mod Script
+pub mod Play
+pub mod Reader
