@@ -1,5 +1,6 @@
 pub mod Machine
 pub mod History
+pub mod HistoryLaws
 pub mod Line
 pub mod Pairs
 pub mod Inside

@@ -1,5 +1,4 @@
-pub mod Fields
-pub mod Heads
-pub mod Script
-pub mod Play
-pub mod Reader
+pub mod Tallies
+pub mod TallyLaws
+pub mod Tallies
+pub mod TallyLaws

@@ -10,6 +10,7 @@ mod play_writer;
 mod read;
 mod reading;
 mod script_reader;
+mod tally;
 
 pub use events::{PlayEvent, ScriptEvent};
 pub use fault::{Ending, RecordEnd, RecordFault};
@@ -17,6 +18,7 @@ pub use heading::Head;
 pub use laws::scripts_have_no_fault;
 pub use play_writer::{play_event_of, write_end, write_play, write_play_head};
 pub use script_reader::ScriptReader;
+pub use tally::{PlayTally, Tally};
 
 #[cfg(test)]
 mod tests;
