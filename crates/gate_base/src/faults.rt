@@ -1,5 +1,5 @@
 // How often the calls of an object have failed.
-ghost use Rattle.std.specs.Prelude.{◌≡◌, ◌+◌, ◌-◌, ◌^◌, min};
+ghost use Rattle.std.specs.Prelude.{◌≡◌, ◌+◌, ◌-◌, ◌^◌, ◌≤◌, min};
 ghost use Rattle.gate_base.specs.Faults.{Rose};
 
 use std::marker::Model;
@@ -34,6 +34,7 @@ impl FaultCount {
     pub fn raise(&mut self)
         ensures count { self.new ≡ min (self.old + 1) (2 ^ 64 - 1) }
         ensures rose { Rose self.old self.new }
+        ensures later { self.old ≤ self.new }
     {
         self.count = self.count.saturating_add(1);
     }

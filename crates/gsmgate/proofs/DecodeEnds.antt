@@ -1,0 +1,41 @@
+-- From the loop over the frames to the whole command.
+use Rattle.std.proofs.Common.{◌≡◌, ℕ, ◌≤◌, List, [], length, take, Option, Some, None, Ok, Err, refl, sym, ap, subst, ◌∙◌, append-nil, arith}
+use Rattle.std.specs.Prelude.{ℤ, IfSome}
+use Rattle.std.specs.List.{AllByRecursion}
+use Rattle.std.specs.Io.KnownBytes.{Appends}
+use Rattle.std.proofs.KnownBytes.{Appends-nil}
+use Rattle.frame_codec.specs.Octets.{IsFrame}
+use Rattle.gate_io.specs.Flow.{AppendsPart}
+use Rattle.gate_io.specs.FlowLaws.{AppendsPart-whole}
+use Rattle.recorder.specs.declared.fault.RecordFault.{RecordFault}
+use Rattle.gsmgate.specs.declared.status.Status.TheVariants.{Done, Input, ReadFault, WriteFault}
+use Rattle.gsmgate.specs.declared.stop.Stop.TheVariants as stop
+use Rattle.gsmgate.specs.Decode.{BeginsWith, Ends, coded, frame_fault, frame_limit}
+use Rattle.gsmgate.specs.DecodeRuns.{HasDecoded}
+use Rattle.gsmgate.specs.Exchange.{Exchange, GainedUnlessFault}
+use Rattle.gsmgate.specs.Notes.{fault_line, frames_line}
+use Rattle.gsmgate.specs.Pcm.{pcm_of}
+use Rattle.gsmgate.proofs.Decoding.{no-frame-fault}
+
+-- nothing is said of the octets that follow
+weaker : (frames : List (List ℕ)) (Q : List ℕ → Type 0) (input : Option (List ℕ)) → IfSome input (BeginsWith frames Q) → IfSome input (BeginsWith frames (λ rest. Unit {0}))
+weaker frames Q None p = tt
+weaker frames Q (Some x) p = (p.0, p.1, tt)
+
+-- the frames were not noted whole
+pub cut : (x : Exchange) (frames : List (List ℕ)) (samples : List ℤ) (n : ℕ) → HasDecoded (Ok n) x.input x.output x.output_now frames samples → AppendsPart x.notes x.notes_now (frames_line n) → Ends WriteFault x
+cut x frames samples n ran noted = (
+  frames,
+  samples,
+  ran.decoded,
+  weaker frames (λ rest. rest ≡ []) x.input ran.text,
+  AppendsPart-whole x.output x.output_now (pcm_of samples) ran.given,
+  subst (λ (k : ℕ). AppendsPart x.notes x.notes_now (frames_line k)) ran.counted noted,
+)
+
+-- whole frames are not refused
+pub not_refused : (x : Exchange) (frames : List (List ℕ)) → Ends Input x → x.input ≡ Some (coded frames) → AllByRecursion IsFrame frames → length frames ≤ frame_limit → ⊥
+not_refused x frames (f, before, samples, decoded, text, given, noted) told whole few =
+    let P : Option (List ℕ) → Type 0 = λ o. IfSome o (BeginsWith before (λ rest. frame_fault (length before) (take 33 rest) ≡ Some f)) in
+    let begun = subst P told text in
+    no-frame-fault 0 before frames begun.0 f decoded.whole whole (omega (arith, few)) (sym begun.1) (subst (λ (n : ℕ). frame_fault n (take 33 begun.0) ≡ Some f) (omega arith) begun.2)

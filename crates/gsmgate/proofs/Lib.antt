@@ -1,0 +1,6 @@
+pub mod Events
+pub mod Sofar
+pub mod Ends
+pub mod FrameFaults
+pub mod Decoding
+pub mod DecodeEnds

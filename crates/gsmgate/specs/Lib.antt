@@ -1,0 +1,12 @@
+pub mod Words
+pub mod Places
+pub mod Calls
+pub mod Notes
+pub mod Exchange
+pub mod Simulate
+pub mod Applies
+pub mod Ran
+pub mod Pcm
+pub mod Decode
+pub mod DecodeRuns
+pub mod Commands

@@ -1,0 +1,82 @@
+-- The lines of the notes.
+use Rattle.std.specs.Prelude.{ℕ, List, [], ◌∷◌, ◌++◌, codes, decimal}
+use Rattle.std.specs.List.{flat_map}
+use Rattle.play_machine.specs.declared.reply.FileReply.{FileReply}
+use Rattle.play_machine.specs.declared.reply.FileReply.TheVariants.{Accepted, Duplicate, Late, Beyond}
+use Rattle.play_machine.specs.declared.call.Call.{Call}
+use Rattle.play_machine.specs.declared.call.Call.TheVariants.{FileCall, SourceCall, BaseCall, PeekCall, TickCall}
+use Rattle.play_machine.specs.History.{Entry, calls_of, calls}
+use Rattle.recorder.specs.declared.fault.RecordFault.{RecordFault}
+use Rattle.recorder.specs.declared.fault.RecordFault.TheVariants.{Magic, Kind, Cut, Field, TooLong}
+use Rattle.recorder.specs.declared.tally.Tally.{Tally}
+use Rattle.recorder.specs.declared.tally.PlayTally.{PlayTally}
+use Rattle.recorder.specs.Tallies.{call_items, call_replies, play_tally, reply_tally}
+
+abbrev pub newline : List ℕ
+newline = 10 ∷ []
+
+-- a name and its number
+abbrev pub counted : List ℕ → ℕ → List ℕ
+counted name n = name ++ decimal n
+
+abbrev pub usage_line : List ℕ
+usage_line = codes "usage" ++ newline
+
+-- a frame's line, where it was not accepted
+abbrev pub reply_line : ℕ → ℕ → FileReply → List ℕ
+reply_line caller number Accepted = []
+reply_line caller number Duplicate = decimal caller ++ (counted (codes " duplicate ") number ++ newline)
+reply_line caller number (Late ahead) = decimal caller ++ (counted (codes " late ") number ++ (counted (codes " ") ahead ++ newline))
+reply_line caller number (Beyond ahead) = decimal caller ++ (counted (codes " beyond ") number ++ (counted (codes " ") ahead ++ newline))
+
+-- the line of a caller's call
+abbrev pub line_of_call : ℕ → Call → List ℕ
+line_of_call who (FileCall n f reply) = reply_line who n reply
+line_of_call who (SourceCall x held) = []
+line_of_call who (BaseCall x held) = []
+line_of_call who (PeekCall held) = []
+line_of_call who (TickCall item) = []
+
+abbrev pub entry_line : Entry → List ℕ
+entry_line e = line_of_call e.who e.call
+
+-- the lines of a history, in its order
+abbrev pub history_lines : List Entry → List ℕ
+history_lines history = flat_map entry_line history
+
+-- what the beats came to
+abbrev pub play_line : PlayTally → List ℕ
+play_line t = counted (codes "ticks ") t.ticks ++ (counted (codes " frames ") t.frames ++ (counted (codes " erasures ") t.erasures ++ (counted (codes " idle ") t.idle ++ newline)))
+
+-- how the frames were answered
+abbrev pub frame_words : Tally → List ℕ
+frame_words t = counted (codes " accepted ") t.accepted ++ (counted (codes " duplicate ") t.duplicate ++ (counted (codes " late ") t.late ++ counted (codes " beyond ") t.beyond))
+
+-- the datagrams that gave no frame
+abbrev pub other_words : Tally → List ℕ
+other_words t = counted (codes " refused ") t.refused ++ (counted (codes " stranger ") t.stranger ++ (counted (codes " rtcp ") t.rtcp ++ counted (codes " empty ") t.empty))
+
+-- what the datagrams and the frames came to, of whom it is said
+abbrev pub tally_line : List ℕ → Tally → List ℕ
+tally_line whose t = whose ++ (counted (codes " datagrams ") t.datagrams ++ (frame_words t ++ (other_words t ++ newline)))
+
+-- the summary of a run: the player's calls, and all replies
+abbrev pub summary : ℕ → List Entry → List ℕ
+summary filers history =
+    play_line (play_tally (flat_map call_items (calls_of filers history))) ++ tally_line (codes "all") (reply_tally (flat_map call_replies (calls history)))
+
+-- the words of a fault, with its place
+abbrev pub fault_words : RecordFault → List ℕ
+fault_words Magic = codes " magic"
+fault_words (Kind at) = counted (codes " kind ") at
+fault_words (Cut at) = counted (codes " cut ") at
+fault_words (Field at) = counted (codes " field ") at
+fault_words TooLong = codes " long"
+
+-- the line of the first fault of an input, by the input's place among the words
+abbrev pub fault_line : ℕ → RecordFault → List ℕ
+fault_line input fault = counted (codes "input ") input ++ (fault_words fault ++ newline)
+
+-- how many frames there were
+abbrev pub frames_line : ℕ → List ℕ
+frames_line n = counted (codes "frames ") n ++ newline

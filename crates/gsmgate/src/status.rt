@@ -1,0 +1,22 @@
+// How a command ends.
+
+/// How a command ended. The program's exit status is the place in this list, from 0.
+#[derive(Clone, Copy, Debug, PartialEq, Eq)]
+pub enum Status {
+    /// The command came to its end.
+    Done,
+    /// The journals have no legal history.
+    Illegal,
+    /// The words are no line of the program, or other objects were handed in than they name.
+    Usage,
+    /// An input is not in its grammar.
+    Input,
+    /// An input could not be read.
+    ReadFault,
+    /// The output or the notes could not be written.
+    WriteFault,
+    /// A link failed.
+    LinkFault,
+    /// There was no memory.
+    OutOfMemory,
+}
