@@ -13,20 +13,20 @@ pub fn clip16(a: i32) -> i16
 
 /// The limited sum (`add`).
 #[inline]
-#[tactic(auto, unfolding(crate::specs::Word::clip_word, crate::specs::Word::add_words))]
+#[tactic(auto, unfolding(crate::specs::Word::add_words))]
 pub fn add(a: i16, b: i16) -> i16
     ensures { result ≡ add_words a b }
 {
-    a.saturating_add(b)
+    clip16(a as i32 + b as i32)
 }
 
 /// The limited difference (`sub`).
 #[inline]
-#[tactic(auto, unfolding(crate::specs::Word::clip_word, crate::specs::Word::sub_words))]
+#[tactic(auto, unfolding(crate::specs::Word::sub_words))]
 pub fn sub(a: i16, b: i16) -> i16
     ensures { result ≡ sub_words a b }
 {
-    a.saturating_sub(b)
+    clip16(a as i32 - b as i32)
 }
 
 /// The product of two fractions of 15 binary places, rounded down and limited (`mult`).

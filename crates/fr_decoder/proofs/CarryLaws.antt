@@ -1,15 +1,13 @@
 -- A decoder stands behind one frame more.
-use Rattle.std.proofs.Common.{◌≡◌, ℕ, ◌+◌, ◌-◌, ◌*◌, ◌<◌, ◌≤◌, ℤ, pos, List, [], ◌∷◌, ◌++◌, length, replicate, refl, sym, ◌∙◌, ap, arith, length-append, inl, inr}
+use Rattle.std.proofs.Common.{◌≡◌, ℕ, ◌+◌, ◌-◌, ◌*◌, ◌<◌, ℤ, pos, List, [], ◌∷◌, ◌++◌, length, replicate, refl, sym, ◌∙◌, ap, arith, length-append, inl, inr}
 use Rattle.std.proofs.lemmas.Bool.{cases_lt}
 use Rattle.std.proofs.lemmas.List.{get_or_append_left, get_or-append_right}
 use Rattle.fixed_arith.specs.Signal.{at, past}
 use Rattle.frame_codec.specs.Frame.{Fields}
 use Rattle.lar_filter.specs.Ratios.{ratios_of}
-use Rattle.lar_filter.specs.Runs.{Runs}
-use Rattle.lar_filter.specs.Lattice.{StepsTo}
-use Rattle.rpe_ltp.specs.LongTerm.{Memory, Remembers}
+use Rattle.rpe_ltp.specs.LongTerm.{Remembers}
 use Rattle.fr_decoder.specs.Deemphasis.{emphasis_after, output_of}
-use Rattle.fr_decoder.specs.Speech.{sub_frames, ratio, coefficient, IsSpeech}
+use Rattle.fr_decoder.specs.Speech.{sub_frames, ratio, coefficient}
 use Rattle.fr_decoder.specs.Decoding.{Kept, IsFed, frame_coefficient, PassesFrame, Carries, Decodes}
 use Rattle.fr_decoder.proofs.DeemphasisLaws.{emphasis_after-none, emphasis_after-front, emphasis_after-join}
 use Rattle.fr_decoder.proofs.FedLaws.{IsFed-same, IsFed-append}
@@ -21,15 +19,15 @@ fed-more : (frames : List Fields) (frame : Fields) (before residual more : List 
     → IsFed (coefficient (frames ++ frame ∷ [])) 0 (residual ++ more) (inputs ++ ins)
 fed-more frames frame before residual more inputs ins size count kept old new =
     IsFed-append (coefficient (frames ++ frame ∷ [])) 0 residual more inputs ins
-      (IsFed-same (coefficient frames) (coefficient (frames ++ frame ∷ [])) 0 0 residual inputs old
-        (λ i k small inside. sym (coefficient-front frames frame i (0 + k) (omega (arith, size)))))
-      (IsFed-same (frame_coefficient before (ratios_of frame.larc)) (coefficient (frames ++ frame ∷ [])) 0 (0 + length residual) more ins new
-        (λ i k small inside.
-          let place : 160 * length frames + k ≡ 0 + length residual + k = omega (arith, size) in
-          let from : 0 + k ≡ k = omega arith in
-          ap (frame_coefficient before (ratios_of frame.larc) i) from
-          ∙ coefficient-last frames frame before i k (omega (arith, count)) (kept i small)
-          ∙ ap (coefficient (frames ++ frame ∷ []) i) place))
+    (IsFed-same (coefficient frames) (coefficient (frames ++ frame ∷ [])) 0 0 residual inputs old
+    (λ i k small inside. sym (coefficient-front frames frame i (0 + k) (omega (arith, size)))))
+    (IsFed-same (frame_coefficient before (ratios_of frame.larc)) (coefficient (frames ++ frame ∷ [])) 0 (0 + length residual) more ins new
+    (λ i k small inside.
+    let place : 160 * length frames + k ≡ 0 + length residual + k = omega (arith, size) in
+    let from : 0 + k ≡ k = omega arith in
+    ap (frame_coefficient before (ratios_of frame.larc) i) from
+    ∙ coefficient-last frames frame before i k (omega (arith, count)) (kept i small)
+    ∙ ap (coefficient (frames ++ frame ∷ []) i) place))
 
 output-more : (filtered ys samples out : List ℤ) (last : ℤ) (n : ℕ) → length filtered ≡ n → length samples ≡ n → last ≡ emphasis_after (pos 0) filtered n
     → ((t : ℕ) → t < n → at samples t ≡ output_of (emphasis_after (pos 0) filtered (t + 1)))
@@ -44,7 +42,7 @@ output-more filtered ys samples out last n size count kept old new t inside = el
       let place : length filtered + (t - n + 1) ≡ t + 1 = omega arith in
       get_or-append_right samples out n t (pos 0) count late ∙ new (t - n) there
       ∙ ap output_of (ap (λ (value : ℤ). emphasis_after value ys (t - n + 1)) (kept ∙ ap (emphasis_after (pos 0) filtered) (sym size))
-          ∙ sym (emphasis_after-join (pos 0) filtered ys (t - n + 1)) ∙ ap (emphasis_after (pos 0) (filtered ++ ys)) place)
+      ∙ sym (emphasis_after-join (pos 0) filtered ys (t - n + 1)) ∙ ap (emphasis_after (pos 0) (filtered ++ ys)) place)
 ]
 
 pub Decodes-more : (frames : List Fields) (frame : Fields) (samples : List ℤ) (old next : Kept) (carried : Carries frames samples old) (more ys out : List ℤ)

@@ -1,13 +1,11 @@
 -- Inputs of the filter, piece by piece.
 use Rattle.std.proofs.Common.{◌≡◌, ℕ, ◌+◌, ◌-◌, ◌<◌, ◌≤◌, ℤ, pos, List, [], ◌++◌, length, take, drop, refl, sym, ◌∙◌, ap, arith, length-append, append_assoc, inl, inr}
-use Rattle.std.specs.Prelude.{nat_lt, get_or}
 use Rattle.std.proofs.lemmas.Bool.{cases_lt}
 use Rattle.std.proofs.lemmas.Bool.Decides.{nat_tests}
 use Rattle.std.proofs.lemmas.List.{get_or_append_left, get_or-append_right, take-append-drop, length-map, get_or-map}
 use Rattle.fixed_arith.specs.Signal.{at}
 use Rattle.lar_filter.specs.Coefficients.{between, coefficient_of}
 use Rattle.lar_filter.specs.Runs.{inputs_of}
-use Rattle.lar_filter.specs.Trace.{coefficients_at, sample_at}
 use Rattle.fr_decoder.specs.Speech.{part_of}
 use Rattle.lar_filter.specs.Runs.{Runs}
 use Rattle.lar_filter.specs.Lattice.{StepsTo}
@@ -88,12 +86,12 @@ parts_fed before now rp0 rp1 rp2 rp3 x0 x1 x2 x3 size0 size1 size2 is0 is1 is2 i
     let two : length (x0 ++ x1) ≡ 27 = omega (arith, length-append x0 x1) in
     let three : length ((x0 ++ x1) ++ x2) ≡ 40 = omega (arith, length-append (x0 ++ x1) x2) in
     IsFed-append (frame_coefficient before now) 0 ((x0 ++ x1) ++ x2) x3 ((inputs_of rp0 x0 ++ inputs_of rp1 x1) ++ inputs_of rp2 x2) (inputs_of rp3 x3)
-      (IsFed-append (frame_coefficient before now) 0 (x0 ++ x1) x2 (inputs_of rp0 x0 ++ inputs_of rp1 x1) (inputs_of rp2 x2)
-        (IsFed-append (frame_coefficient before now) 0 x0 x1 (inputs_of rp0 x0) (inputs_of rp1 x1)
-          (IsFed-part before now rp0 x0 0 0 is0 (λ k h. part_of-first (0 + k) (omega arith)))
-          (IsFed-part before now rp1 x1 1 (0 + length x0) is1 (λ k h. part_of-second (0 + length x0 + k) (omega arith) (omega arith))))
-        (IsFed-part before now rp2 x2 2 (0 + length (x0 ++ x1)) is2 (λ k h. part_of-third (0 + length (x0 ++ x1) + k) (omega arith) (omega arith))))
-      (IsFed-part before now rp3 x3 3 (0 + length ((x0 ++ x1) ++ x2)) is3 (λ k h. part_of-fourth (0 + length ((x0 ++ x1) ++ x2) + k) (omega arith)))
+    (IsFed-append (frame_coefficient before now) 0 (x0 ++ x1) x2 (inputs_of rp0 x0 ++ inputs_of rp1 x1) (inputs_of rp2 x2)
+    (IsFed-append (frame_coefficient before now) 0 x0 x1 (inputs_of rp0 x0) (inputs_of rp1 x1)
+    (IsFed-part before now rp0 x0 0 0 is0 (λ k h. part_of-first (0 + k) (omega arith)))
+    (IsFed-part before now rp1 x1 1 (0 + length x0) is1 (λ k h. part_of-second (0 + length x0 + k) (omega arith) (omega arith))))
+    (IsFed-part before now rp2 x2 2 (0 + length (x0 ++ x1)) is2 (λ k h. part_of-third (0 + length (x0 ++ x1) + k) (omega arith) (omega arith))))
+    (IsFed-part before now rp3 x3 3 (0 + length ((x0 ++ x1) ++ x2)) is3 (λ k h. part_of-fourth (0 + length ((x0 ++ x1) ++ x2) + k) (omega arith)))
 
 pub PassesFrame-from_parts : (before now rp0 rp1 rp2 rp3 values x0 x1 x2 x3 start : List ℤ) (inputs : List (List ℤ × ℤ)) (ys y0 y1 y2 y3 after : List ℤ)
     → values ≡ x0 ++ (x1 ++ (x2 ++ x3)) → length x0 ≡ 13 → length x1 ≡ 14 → length x2 ≡ 13

@@ -1,17 +1,15 @@
 -- One frame more: what was before stays, and the coefficients of the new one.
-use Rattle.std.proofs.Common.{◌≡◌, ℕ, zero, suc, ◌+◌, ◌-◌, ◌*◌, ◌/◌, ◌%◌, ◌<◌, ◌≤◌, ℤ, pos, List, [], ◌∷◌, ◌++◌, length, get_or, refl, sym, ◌∙◌, ap, arith, length-append, inl, inr, ◌^◌}
-use Rattle.std.specs.Prelude.{slice_index, flat_map}
+use Rattle.std.proofs.Common.{◌≡◌, ℕ, zero, suc, ◌+◌, ◌-◌, ◌*◌, ◌/◌, ◌%◌, ◌<◌, ◌≤◌, ℤ, pos, List, [], ◌∷◌, ◌++◌, length, get_or, refl, sym, ◌∙◌, ap, arith, length-append}
 use Rattle.std.proofs.lemmas.Bool.Decides.{nat_tests}
 use Rattle.std.proofs.lemmas.List.{get_or_append_left, get_or-append_right, append-nil}
 use Rattle.std.proofs.lemmas.Grind.{get_or_head, flat_map-append}
 use Rattle.fixed_arith.specs.Signal.{at, past}
 use Rattle.frame_codec.specs.declared.params.SubParams.{SubParams}
-use Rattle.frame_codec.specs.Frame.{Fields, FitAll}
+use Rattle.frame_codec.specs.Frame.{Fields}
 use Rattle.lar_filter.specs.Ratios.{ratios_of}
-use Rattle.lar_filter.specs.Coefficients.{between, coefficient_of}
 use Rattle.std.proofs.Common.{append_assoc}
 use Rattle.rpe_ltp.specs.LongTerm.{Memory, Remembers}
-use Rattle.fr_decoder.specs.Speech.{frame_at, sub_frames, ratio, part_of, coefficient}
+use Rattle.fr_decoder.specs.Speech.{frame_at, sub_frames, ratio, coefficient}
 use Rattle.fr_decoder.specs.Decoding.{frame_coefficient}
 
 pub past_reached : (f : ℕ → ℤ) (t n : ℕ) → n ≤ t → past f t n ≡ f (t - n)

@@ -1,10 +1,10 @@
 -- The layers' relations solve the equations of decoded speech.
-use Rattle.std.proofs.Common.{◌≡◌, ℕ, zero, suc, ◌+◌, ◌-◌, ◌*◌, ◌/◌, ◌<◌, ◌≤◌, ℤ, pos, List, length, replicate, get_or, refl, sym, ◌∙◌, ap, arith}
+use Rattle.std.proofs.Common.{◌≡◌, ℕ, zero, suc, ◌+◌, ◌-◌, ◌*◌, ◌<◌, ℤ, pos, List, length, replicate, sym, ◌∙◌, ap, arith}
 use Rattle.std.proofs.lemmas.List.{get_or-replicate}
-use Rattle.fixed_arith.specs.Word.{add_words, sub_words, mult_r_words}
+use Rattle.fixed_arith.specs.Word.{add_words, mult_r_words}
 use Rattle.fixed_arith.specs.Signal.{at, past}
 use Rattle.frame_codec.specs.Frame.{Fields}
-use Rattle.lar_filter.specs.Trace.{since, Traces, coefficients_at, sample_at}
+use Rattle.lar_filter.specs.Trace.{since, Traces, coefficients_at}
 use Rattle.rpe_ltp.specs.LongTerm.{IsLongTerm}
 use Rattle.fr_decoder.specs.Deemphasis.{emphasis_next, emphasis_after, output_of}
 use Rattle.fr_decoder.specs.Speech.{sub_frames, coefficient, IsSpeech}
@@ -48,5 +48,6 @@ IsSpeech-from_trace frames residual filtered samples after inputs size solved fe
   where
     inside : (t : ℕ) → t < 160 * length frames → t < length inputs
     inside t h = omega (arith, size, fed.count)
+
     fed_is : (i t : ℕ) → i < 8 → t < 160 * length frames → at (coefficients_at inputs t) i ≡ coefficient frames i t
     fed_is i t small h = let place : 0 + t ≡ t = omega arith in fed.coefficients i t small (omega (arith, size)) ∙ ap (coefficient frames i) place

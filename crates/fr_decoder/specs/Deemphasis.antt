@@ -1,4 +1,4 @@
--- De-emphasis, and the samples that come out: GSM 06.10 sections 5.3.4 to 5.3.6.
+-- De-emphasis, and the samples that come out: GSM 06.10 sections 5.3.5 to 5.3.7.
 use Rattle.std.specs.Prelude.{ℕ, zero, suc, ℤ, pos, ◌*ℤ◌, List}
 use Rattle.std.specs.Int.{int_shr}
 use Rattle.fixed_arith.specs.Word.{add_words, mult_r_words}

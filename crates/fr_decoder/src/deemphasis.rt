@@ -1,4 +1,4 @@
-// De-emphasis, and the samples that come out: GSM 06.10 sections 5.3.4 to 5.3.6.
+// De-emphasis, and the samples that come out: GSM 06.10 sections 5.3.5 to 5.3.7.
 ghost use Rattle.std.specs.Prelude.{◌≡◌, ℕ, ◌+◌, ◌<◌, ◌*ℤ◌, pos};
 ghost use Rattle.std.specs.Int.{int_shr};
 ghost use Rattle.fixed_arith.specs.Word.{add_words, mult_r_words};

@@ -6,3 +6,6 @@ mod deemphasis;
 mod short_term;
 
 pub use decoder::Decoder;
+
+#[cfg(test)]
+mod tests;

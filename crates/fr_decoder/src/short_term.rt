@@ -1,4 +1,4 @@
-// The short-term part of a frame: GSM 06.10 section 5.3.3.
+// The short-term part of a frame: GSM 06.10 sections 5.3.3 and 5.3.4.
 ghost use Rattle.std.specs.Prelude.{◌≡◌, ℕ, ◌<◌, ◌≤◌, ◌++◌, ℤ, List};
 ghost use Rattle.fixed_arith.specs.Signal.{at};
 ghost use Rattle.lar_filter.specs.Coefficients.{between, coefficient_of};
@@ -10,7 +10,12 @@ ghost use Rattle.fr_decoder.specs.Decoding.{PassesFrame};
 use lar_filter::{Synthesis, interpolate, reflection_of};
 
 /// Filters the samples of a frame in place, in its four parts, from the ratios of the frame before and of this one.
-pub fn filter_frame(filter: &mut Synthesis, before: &[i16; 8], now: &[i16; 8], samples: &mut [i16; 160])
+pub fn filter_frame(
+    filter: &mut Synthesis,
+    before: &[i16; 8],
+    now: &[i16; 8],
+    samples: &mut [i16; 160],
+)
     ensures goes_on { (start : List ℤ) (inputs : List (List ℤ × ℤ)) (ys : List ℤ) → Runs StepsTo start inputs ys filter.old
         → PassesFrame before.now now.now samples.old start inputs (ys ++ samples.new) filter.new }
 {

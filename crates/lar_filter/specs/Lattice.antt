@@ -1,4 +1,4 @@
--- One sample in the lattice of the synthesis filter: GSM 06.10 section 5.2.10.
+-- One sample in the lattice of the synthesis filter: GSM 06.10 section 5.3.4.
 use Rattle.std.specs.Prelude.{◌≡◌, ℕ, ◌+◌, ◌<◌, ℤ, List}
 use Rattle.fixed_arith.specs.Word.{add_words, sub_words, mult_r_words}
 use Rattle.fixed_arith.specs.Signal.{at}

@@ -1,4 +1,4 @@
--- The synthesis filter as equations in two indices, the stage and the time: GSM 06.10 section 5.2.10.
+-- The synthesis filter as equations in two indices, the stage and the time: GSM 06.10 section 5.3.4.
 use Rattle.std.specs.Prelude.{◌≡◌, ℕ, zero, suc, ◌+◌, ◌<◌, ℤ, pos, List, [], length, get_or}
 use Rattle.fixed_arith.specs.Word.{add_words, sub_words, mult_r_words}
 use Rattle.fixed_arith.specs.Signal.{at}

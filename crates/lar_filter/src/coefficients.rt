@@ -72,3 +72,36 @@ fn steepen(magnitude: i16) -> i16
         add(magnitude >> 2, 26112)
     }
 }
+
+#[cfg(test)]
+mod tests {
+    use super::*;
+
+    #[test]
+    fn four_parts_between_two_frames(rt: HostRuntime) {
+        let before = [25394, 25394, 9012, 16384, 8190, 11468, 7206, 9718];
+        let now = [-25394, 24576, -13926, 13926, 6988, -3822, 5242, -3278];
+        assert_eq!(rt;
+            interpolate(&before, &now, 0),
+            [12696, 25189, 3277, 15769, 7889, 7645, 6714, 6468]
+        );
+        assert_eq!(rt;
+            interpolate(&before, &now, 1),
+            [0, 24985, -2457, 15155, 7589, 3823, 6224, 3220]
+        );
+        assert_eq!(rt;
+            interpolate(&before, &now, 2),
+            [-12698, 24780, -8192, 14540, 7288, 0, 5732, -30]
+        );
+        assert_eq!(rt; interpolate(&before, &now, 3), now);
+    }
+
+    #[test]
+    fn coefficients_at_the_edges_of_their_pieces(rt: HostRuntime) {
+        let ratios = [0, -1, 11058, -11059, 20069, -20070, 32767, -32768];
+        assert_eq!(rt;
+            reflection_of(&ratios),
+            [0, -2, 22116, -22118, 31128, -31129, 32767, -32767]
+        );
+    }
+}

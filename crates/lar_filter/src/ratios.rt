@@ -48,3 +48,28 @@ fn decode_lar(least: i16, offset: i16, inverse_factor: i16, code: u8) -> i16
     let half = mult_r(inverse_factor, sub(code * 1024, offset * 2));
     add(half, half)
 }
+
+#[cfg(test)]
+mod tests {
+    use super::*;
+
+    #[test]
+    fn ratios_of_whole_frames(rt: HostRuntime) {
+        for (larc, want) in [
+            (
+                [0, 0, 0, 0, 0, 0, 0, 0],
+                [-26214, -26214, -16384, -9012, -9832, -4916, -6554, -3278],
+            ),
+            (
+                [63, 63, 31, 31, 15, 15, 7, 7],
+                [25394, 25394, 9012, 16384, 8190, 11468, 7206, 9718],
+            ),
+            (
+                [32, 32, 20, 11, 8, 5, 3, 2],
+                [0, 0, 0, 0, -220, 546, -656, 436],
+            ),
+        ] {
+            assert_eq!(rt; decode_lars(&larc), want);
+        }
+    }
+}

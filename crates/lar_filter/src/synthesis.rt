@@ -1,4 +1,4 @@
-// The short-term synthesis filter: GSM 06.10 section 5.2.10.
+// The short-term synthesis filter: GSM 06.10 section 5.3.4.
 ghost use Rattle.std.specs.Prelude.{◌≡◌, ℤ, pos, List, replicate, ◌++◌};
 ghost use Rattle.fixed_arith.specs.Word.{add_words, sub_words, mult_r_words};
 ghost use Rattle.lar_filter.specs.Runs.{Runs, inputs_of};
@@ -73,4 +73,26 @@ fn stage(r: i16, v: i16, s: i16) -> (i16, i16)
 {
     let below = sub(s, mult_r(r, v));
     (below, add(v, mult_r(r, below)))
+}
+
+#[cfg(test)]
+mod tests {
+    use super::*;
+
+    #[test]
+    fn two_calls_with_coefficients_of_their_own(rt: HostRuntime) {
+        let mut filter = Synthesis::new();
+        let mut samples = [1000, 0, -32768, 32767];
+        filter.run(
+            &[16384, -16384, 8192, -8192, 4096, -4096, 2048, -2048],
+            &mut samples,
+        );
+        assert_eq!(rt; samples, [1000, -4, -32267, 32748]);
+        let mut samples = [5, -5, 32767];
+        filter.run(
+            &[-32767, 32767, 20000, -20000, 100, -100, 1, 0],
+            &mut samples,
+        );
+        assert_eq!(rt; samples, [32767, 18360, 32767]);
+    }
 }

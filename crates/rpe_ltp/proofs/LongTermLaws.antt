@@ -1,5 +1,5 @@
 -- One sub-frame more in the long-term synthesis.
-use Rattle.std.proofs.Common.{◌≡◌, ℕ, zero, suc, ◌+◌, ◌-◌, ◌*◌, ◌/◌, ◌%◌, ◌<◌, ◌≤◌, ℤ, pos, List, [], ◌∷◌, ◌++◌, length, drop, get_or, refl, sym, ◌∙◌, ap, arith, length-append, length-drop, inl, inr}
+use Rattle.std.proofs.Common.{◌≡◌, ℕ, zero, suc, ◌+◌, ◌-◌, ◌/◌, ◌%◌, ◌<◌, ◌≤◌, ℤ, pos, List, [], ◌∷◌, ◌++◌, length, drop, refl, sym, ◌∙◌, ap, arith, length-append, length-drop, inl, inr}
 use Rattle.std.proofs.lemmas.List.{get_or_append_left, get_or-append_right, get_or-drop}
 use Rattle.std.proofs.lemmas.Grind.{get_or_head}
 use Rattle.std.proofs.lemmas.Bool.{cases_lt}
@@ -90,9 +90,16 @@ each-new subs values more sub kept remembers next t new inside =
     let place : t / 40 ≡ length subs = omega (arith, remembers.solved.count) in
     let within : t % 40 ≡ t - length values = omega (arith, remembers.solved.count) in
     let lag : lag_before subs (length subs) ≡ kept.lag = sym remembers.lag in
-    rw (place, within, get_or-append_right values more (length values) t (pos 0) refl new, lag_before-front subs sub (length subs) (omega arith), sub_at-last subs sub, lag,
-        back_now subs values more kept (lag_after kept.lag sub.nc) t remembers next.least next.most new small)
-      (next.each (t - length values) small)
+    rw (
+      place,
+      within,
+      get_or-append_right values more (length values) t (pos 0) refl new,
+      lag_before-front subs sub (length subs) (omega arith),
+      sub_at-last subs sub,
+      lag,
+      back_now subs values more kept (lag_after kept.lag sub.nc) t remembers next.least next.most new small,
+    )
+    (next.each (t - length values) small)
 
 last-more : (values kept more : List ℤ) → length kept ≡ 120 → length more ≡ 40 → ((back : ℕ) → 1 ≤ back → back ≤ 120 → back_at kept back ≡ past (at values) (length values) back)
     → (back : ℕ) → 1 ≤ back → back ≤ 120 → back_at (drop 40 kept ++ more) back ≡ past (at (values ++ more)) (length (values ++ more)) back

@@ -1,5 +1,5 @@
 -- The level of a code, range by range, and pulses on their grid.
-use Rattle.std.proofs.Common.{◌≡◌, ◌≢◌, ℕ, zero, suc, ◌+◌, ◌-◌, ◌*◌, ◌/◌, ◌%◌, ◌<◌, ◌≤◌, refl, sym, ap, ◌∙◌, arith, Bool, true, false, List, [], ◌∷◌, length, length-set, set, get_or, get_or-set_same, get_or-set_other, ℤ, pos, negsuc, ◌^◌, FitsSigned, w16, to_z, inl, inr, replicate}
+use Rattle.std.proofs.Common.{◌≡◌, ◌≢◌, ℕ, zero, suc, ◌+◌, ◌-◌, ◌*◌, ◌/◌, ◌%◌, ◌<◌, ◌≤◌, refl, sym, ap, ◌∙◌, arith, Bool, true, false, List, [], ◌∷◌, length, length-set, set, get_or, get_or-set_same, get_or-set_other, ℤ, pos, ◌^◌, FitsSigned, w16, to_z, inl, inr, replicate}
 use Rattle.std.specs.Prelude.{nat_le, nat_lt, ◌==◌, ◌&&◌, slice_index}
 use lib.Signed.{mag}
 use Rattle.std.proofs.lemmas.Bool.{ltb-true, cases_lt}

@@ -47,3 +47,21 @@ impl LagHistory {
         oldest.copy_from_slice(values);
     }
 }
+
+#[cfg(test)]
+mod tests {
+    use super::*;
+
+    #[test]
+    fn four_sub_frames_push_out_the_first(rt: HostRuntime) {
+        let mut history = LagHistory::new();
+        assert_eq!(rt; history.at(120), 0);
+        for value in [1, 2, 3, 4] {
+            history.push(&[value; 40]);
+        }
+        assert_eq!(rt; history.at(1), 4);
+        assert_eq!(rt; history.at(40), 4);
+        assert_eq!(rt; history.at(41), 3);
+        assert_eq!(rt; history.at(120), 2);
+    }
+}

@@ -91,3 +91,35 @@ fn sub_frame(history: &LagHistory, lag: usize, gain: i16, pulses: &[i16; 40]) ->
     }
     values
 }
+
+#[cfg(test)]
+mod tests {
+    use super::*;
+
+    #[test]
+    fn lags_out_of_range_repeat_the_lag_before(rt: HostRuntime) {
+        let xmc = [7, 0, 6, 1, 5, 2, 4, 3, 7, 0, 6, 1, 5];
+        let mut long_term = LongTerm::new();
+        // the lag's code, and the first values of the sub-frame
+        for (mc, (nc, want)) in [
+            (39, [4032, 0, 0, -4032, 0, 0, 2880, 0]),
+            (40, [4032, 4480, 0, -4032, -4480, 0, 2880, 3200]),
+            (120, [0, 0, 4928, 0, 0, -4928, 0, 0]),
+            (121, [4032, 0, 0, 1344, 0, 0, -2496, 0]),
+        ]
+        .into_iter()
+        .enumerate()
+        {
+            let mc = mc as u8;
+            let xmaxc = 40 + mc;
+            let values = long_term.step(&SubParams {
+                nc,
+                bc: 3,
+                mc,
+                xmaxc,
+                xmc,
+            });
+            assert_eq!(rt; &values[..8], want.as_slice(), "the lag's code {nc}");
+        }
+    }
+}

@@ -88,3 +88,36 @@ fn spread(grid: usize, pulses: &[i16; 13]) -> [i16; 40]
     }
     places
 }
+
+#[cfg(test)]
+mod tests {
+    use super::*;
+
+    #[test]
+    fn pulses_of_the_least_and_the_greatest_level(rt: HostRuntime) {
+        let codes = [0, 1, 2, 3, 4, 5, 6, 7, 7, 7, 7, 7, 7];
+        let least = [-28, -20, -12, -4, 4, 12, 20, 28, 28, 28, 28, 28, 28];
+        assert_eq!(rt; inverse_apcm(0, &codes), least);
+        let greatest = [
+            -28671, -20479, -12288, -4096, 4096, 12288, 20479, 28671, 28671, 28671, 28671, 28671,
+            28671,
+        ];
+        assert_eq!(rt; inverse_apcm(63, &codes), greatest);
+    }
+
+    #[test]
+    fn greatest_pulse_of_a_level(rt: HostRuntime) {
+        for (level, want) in [
+            (1, 56),
+            (2, 84),
+            (3, 112),
+            (7, 224),
+            (8, 252),
+            (15, 448),
+            (16, 504),
+            (31, 1792),
+        ] {
+            assert_eq!(rt; inverse_apcm(level, &[7; 13])[12], want, "at level {level}");
+        }
+    }
+}

@@ -1,4 +1,4 @@
-use Rattle.std.proofs.Common.{arith, ◌≡◌, ◌<◌, ℕ, pos, List, replicate, refl}
+use Rattle.std.proofs.Common.{pos, replicate, refl}
 use Rattle.std.proofs.lemmas.List.{get_or-replicate}
 use Rattle.fr_decoder.specs.Decoding.{Kept}
 use Rattle.fr_decoder.proofs.CarryLaws.{Decodes-start}
