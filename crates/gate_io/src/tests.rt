@@ -1,21 +1,17 @@
 use super::*;
-use std::alloc::Global;
 use std::test::Fail;
 
-// Takes pieces of two octets until a call fails or the end comes.
+// Takes an octet at a time until a call fails or the end comes.
 fn drained<I: Source>(source: &mut I, octets: &mut [u8; 8]) -> (usize, bool) {
-    let mut count = 0;
-    for _ in 0..4 {
-        let mut piece = [0; 2];
+    for i in 0..8 {
+        let mut piece = [0; 1];
         match source.take(&mut piece) {
-            Ok(1) => octets[count] = piece[0],
-            Ok(0) => return (count, true),
-            Ok(_) => octets[count] = piece[0],
-            Err(Failed) => return (count, false),
+            Ok(0) => return (i, true),
+            Ok(_) => octets[i] = piece[0],
+            Err(Failed) => return (i, false),
         }
-        count += 1;
     }
-    (count, true)
+    (8, false)
 }
 
 #[test]

@@ -2,7 +2,22 @@
 #![tactic(auto)]
 
 mod call;
+mod laws;
+mod map_filer;
+mod map_line;
+mod map_player;
+mod pairs;
 mod reply;
+mod side;
 
 pub use call::Call;
+pub use gate_base::OutOfMemory;
+pub use laws::{accepted_once, ahead_is_least, replies_are_one, ticks_play_accepted};
+pub use map_filer::MapFiler;
+pub use map_line::MapLine;
+pub use map_player::MapPlayer;
 pub use reply::FileReply;
+pub use side::{FilerSide, PlayerSide};
+
+#[cfg(test)]
+mod tests;

@@ -1,0 +1,3 @@
+pub mod Deemphasis
+pub mod Speech
+pub mod Decoding

@@ -1,0 +1,76 @@
+// The short-term synthesis filter: GSM 06.10 section 5.2.10.
+ghost use Rattle.std.specs.Prelude.{◌≡◌, ℤ, pos, List, replicate, ◌++◌};
+ghost use Rattle.fixed_arith.specs.Word.{add_words, sub_words, mult_r_words};
+ghost use Rattle.lar_filter.specs.Runs.{Runs, inputs_of};
+ghost use Rattle.lar_filter.specs.Lattice.{StepsTo};
+ghost use Rattle.lar_filter.specs.Trace.{Traces};
+
+use fixed_arith::{add, mult_r, sub};
+use std::marker::Model;
+
+/// A lattice of eight stages, seen as its values v(0) to v(7) at the last sample, at first 0.
+#[derive(Drop)]
+pub struct Synthesis {
+    v: [i16; 8],
+}
+
+impl Model for Synthesis {
+    ghost use Rattle.std.specs.Prelude.{ℤ, List};
+
+    ghost Value = { List ℤ };
+
+    ghost view = { λ f. f.v };
+}
+
+impl Synthesis {
+    /// A filter at rest.
+    pub fn new() -> Self
+        ensures { result ≡ replicate 8 (pos 0) }
+    {
+        Synthesis { v: [0; 8] }
+    }
+
+    /// Filters samples in place, with the reflection coefficients rp(1) to rp(8).
+    pub fn run(&mut self, rp: &[i16; 8], samples: &mut [i16])
+        ensures run { Runs StepsTo self.old (inputs_of rp.now samples.old) samples.new self.new }
+
+        // The calls before and this one are one run.
+        ensures goes_on { (start : List ℤ) (inputs : List (List ℤ × ℤ)) (ys : List ℤ) → Runs StepsTo start inputs ys self.old
+            → Runs StepsTo start (inputs ++ inputs_of rp.now samples.old) (ys ++ samples.new) self.new }
+
+        // What went through, call after call, solves the equations in two indices.
+        ensures equations { (start : List ℤ) (inputs : List (List ℤ × ℤ)) (ys : List ℤ) → Runs StepsTo start inputs ys self.old
+            → Traces start (inputs ++ inputs_of rp.now samples.old) (ys ++ samples.new) self.new }
+    {
+        let mut v = self.v;
+        for sample in samples.iter_mut() {
+            *sample = step(rp, &mut v, *sample);
+        }
+        self.v = v;
+    }
+}
+
+/// One sample through the stages. v(8) is never read, so it is not made.
+#[inline]
+fn step(rp: &[i16; 8], v: &mut [i16; 8], x: i16) -> i16
+    ensures { StepsTo rp.now v.old x result v.new }
+{
+    let mut s = sub(x, mult_r(rp[7], v[7]));
+    for i in (0..7).rev() {
+        let (below, above) = stage(rp[i], v[i], s);
+        s = below;
+        v[i + 1] = above;
+    }
+    v[0] = s;
+    s
+}
+
+/// One stage: s(i - 1) and v(i), from s(i) and the v(i - 1) of the sample before.
+#[inline]
+fn stage(r: i16, v: i16, s: i16) -> (i16, i16)
+    ensures below { result.0 ≡ sub_words s (mult_r_words r v) }
+    ensures above { result.1 ≡ add_words v (mult_r_words r result.0) }
+{
+    let below = sub(s, mult_r(r, v));
+    (below, add(v, mult_r(r, below)))
+}

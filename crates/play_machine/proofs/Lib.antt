@@ -1,0 +1,10 @@
+pub mod Places
+pub mod Looked
+pub mod Fits
+pub mod Moved
+pub mod Histories
+pub mod Filed
+pub mod Told
+pub mod Accepted
+pub mod Once
+pub mod OneReply

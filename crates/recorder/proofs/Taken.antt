@@ -1,0 +1,53 @@
+-- What a piece that was filled from a source tells of what the source had.
+use Rattle.std.proofs.Common.{◌≡◌, ℕ, zero, suc, ◌+◌, ◌≤◌, ◌<◌, List, [], ◌∷◌, ◌++◌, length, take, Option, Some, None, refl, sym, ap, subst, ◌∙◌, append-nil, arith, inl, inr}
+use Rattle.std.specs.Prelude.{IfSome}
+use Rattle.std.specs.Io.KnownBytes.{Consumes, IsAtEnd}
+use Rattle.std.proofs.Math.Seq.{take-append_seam}
+use Rattle.std.proofs.lemmas.Bool.{cases_lt}
+use Rattle.std.proofs.lemmas.List.{length-take-le}
+use Rattle.std.proofs.Common.{slice_index}
+use Rattle.std.proofs.lemmas.Bool.Decides.{nat_tests}
+use Rattle.recorder.specs.Heads.{Heading}
+use Rattle.recorder.specs.Script.{event_limit, fault_at, file_fault}
+
+take-short : (m : ℕ) (xs : List ℕ) → length xs ≤ m → take m xs ≡ xs
+take-short zero [] le = refl
+take-short (suc m) [] le = refl
+take-short zero (x ∷ xs) le = absurd (omega arith)
+take-short (suc m) (x ∷ xs) le = ap (λ (l : List ℕ). x ∷ l) (take-short m xs (omega arith))
+
+-- the first octets of the source, as many as the piece has, are those that came
+front_is : (n m : ℕ) (octets rest piece : List ℕ) → n ≤ m → length piece ≡ m → octets ≡ take n piece ++ rest → (n < m → rest ≡ []) → take m octets ≡ take n piece
+front_is n m octets rest piece le len whole end =
+    let there : length (take n piece) ≡ n = length-take-le n piece (omega arith) in
+    elim (cases_lt n m) [
+      | inl short ↦
+          let all : octets ≡ take n piece = whole ∙ ap (λ (l : List ℕ). take n piece ++ l) (end short) ∙ append-nil (take n piece) in
+          ap (take m) all ∙ take-short m (take n piece) (omega arith)
+      | inr full ↦
+          let same : n ≡ m = omega arith in
+          ap (take m) whole ∙ subst (λ (k : ℕ). take k (take n piece ++ rest) ≡ take n piece) (there ∙ same) (take-append_seam (take n piece) rest)
+    ]
+
+-- so what holds of those that came holds of the first octets of the source
+pub told : (old new : Option (List ℕ)) (n m : ℕ) (piece : List ℕ) (P : List ℕ → Type 0) → n ≤ m → length piece ≡ m → Consumes old new (take n piece) → (n < m → IsAtEnd new)
+    → P (take n piece) → IfSome old (λ octets. P (take m octets))
+told None new n m piece P le len took end p = tt
+told (Some octets) None n m piece P le len took end p = absurd took
+told (Some octets) (Some rest) n m piece P le len took end p = subst P (sym (front_is n m octets rest piece le len took end)) p
+
+-- behind a piece of one octet, the kind, what holds of the rest holds of the whole
+pub behind_kind : (old mid : Option (List ℕ)) (piece : List ℕ) (kind : ℕ) (P Q : List ℕ → Type 0) → length piece ≡ 1 → slice_index piece 0 ≡ kind → Consumes old mid piece
+    → ((rest : List ℕ) → Q rest → P (kind ∷ rest)) → IfSome mid Q → IfSome old P
+behind_kind None mid piece kind P Q one is took f q = tt
+behind_kind (Some xs) None piece kind P Q one is took f q = absurd took
+behind_kind (Some xs) (Some ys) piece kind P Q one is took f q = subst P (sym (took ∙ ap (λ (l : List ℕ). l ++ ys) (single piece kind one is))) (f ys q)
+  where
+    single : (piece : List ℕ) (kind : ℕ) → length piece ≡ 1 → slice_index piece 0 ≡ kind → piece ≡ kind ∷ []
+    single [] kind one is = absurd (omega arith)
+    single (k ∷ []) kind one is = ap (λ (n : ℕ). n ∷ []) is
+    single (k ∷ l ∷ piece) kind one is = absurd (omega arith)
+
+-- behind the kind of a File, within the limit, the fields decide
+pub file_next : (h : Heading) (count at : ℕ) (rest : List ℕ) → count < event_limit → fault_at h count at (2 ∷ rest) ≡ file_fault h (at + 1) (take 42 rest)
+file_next h count at rest few = grind (arith, nat_tests)

@@ -1,0 +1,54 @@
+-- A reader of events, by what it has read.
+use Rattle.std.specs.Prelude.{ℕ, ◌+◌, List, length, ◌≡◌, Option, Some, None, Result, Ok, Err}
+use Rattle.recorder.specs.declared.fault.RecordFault.{RecordFault}
+use Rattle.recorder.specs.declared.fault.RecordEnd.{RecordEnd}
+use Rattle.recorder.specs.declared.fault.RecordEnd.TheVariants.{Fault, ReadFailed}
+use Rattle.recorder.specs.declared.fault.Ending.{Ending}
+use Rattle.recorder.specs.declared.fault.Ending.TheVariants.{Mark, Refused}
+use Rattle.recorder.specs.declared.events.ScriptEvent.{ScriptEvent}
+use Rattle.recorder.specs.Script.{event_text}
+use Rattle.recorder.specs.Heads.{Heading}
+
+-- its head once that is read, the place and the number of events read, and how it ended
+pub record Progress : Type 0 where
+  pub head : Option Heading
+  pub at : ℕ
+  pub count : ℕ
+  pub over : Option Ending
+
+-- before any octet was read
+abbrev pub fresh : Progress
+fresh = record { head = None; at = 0; count = 0; over = None }
+
+-- the answer tells this fault and no other, unless the read failed
+abbrev pub Tells : {T : Type 0} → Result T RecordEnd → Option RecordFault → Type 0
+Tells (Ok x) fault = fault ≡ None
+Tells (Err (Fault f)) fault = fault ≡ Some f
+Tells (Err ReadFailed) fault = Unit {0}
+
+-- what a reader that is over answers
+abbrev pub again : {T : Type 0} → Ending → Result (Option T) RecordEnd
+again Mark = Ok None
+again (Refused e) = Err e
+
+-- a reader after an answer, where each event has its text
+abbrev pub stepped_by : {T : Type 0} → (T → List ℕ) → Progress → Result (Option T) RecordEnd → Progress
+stepped_by text r (Ok (Some e)) = record r { at = r.at + length (text e); count = r.count + 1 }
+stepped_by text r (Ok None) = record r { over = Some Mark }
+stepped_by text r (Err e) = record r { over = Some (Refused e) }
+
+-- a reader of a script after an answer
+abbrev pub stepped : Progress → Result (Option ScriptEvent) RecordEnd → Progress
+stepped = stepped_by event_text
+
+-- a reader after its first answer
+abbrev pub headed : Result Heading RecordEnd → Progress
+headed (Ok h) = record { head = Some h; at = 12; count = 0; over = None }
+headed (Err e) = record fresh { over = Some (Refused e) }
+
+-- what a reader whose head is decided answers
+abbrev pub head_again : Option Heading → Option Ending → Option (Result Heading RecordEnd)
+head_again (Some h) over = Some (Ok h)
+head_again None None = None
+head_again None (Some Mark) = None
+head_again None (Some (Refused e)) = Some (Err e)

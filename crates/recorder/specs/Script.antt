@@ -1,0 +1,89 @@
+-- The script: a head, events and the end mark.
+use Rattle.std.specs.Prelude.{ℕ, ◌+◌, ◌/◌, ◌≡◌, ◌≤◌, ◌<◌, ◌^◌, List, [], ◌∷◌, ◌++◌, length, take, slice_index, Bool, ◌==◌, nat_lt, nat_le, Option, Some, None, if◌then◌else◌, ◌⊎◌}
+use Rattle.std.specs.List.{flat_map, AllByRecursion}
+use Rattle.byteorder.specs.Endian.{big_bytes, big_number}
+use Rattle.frame_codec.specs.Octets.{IsFrame}
+use Rattle.recorder.specs.declared.fault.RecordFault.{RecordFault}
+use Rattle.recorder.specs.declared.fault.RecordFault.TheVariants.{Cut, Kind, TooLong}
+use Rattle.recorder.specs.declared.events.ScriptEvent.{ScriptEvent}
+use Rattle.recorder.specs.declared.events.ScriptEvent.TheVariants.{Tick, File}
+use Rattle.recorder.specs.Fields.{judged}
+use Rattle.recorder.specs.Heads.{Heading, IsHeading, head_fault, head_text, script_magic}
+
+-- the octet behind the last event of a file
+abbrev pub end_mark : ℕ
+end_mark = 255
+
+-- how many events a file has at most
+abbrev pub event_limit : ℕ
+event_limit = 16777216
+
+-- the octets of an event: its kind, and its fields
+abbrev pub event_text : ScriptEvent → List ℕ
+event_text Tick = 1 ∷ []
+event_text (File caller number frame) = 2 ∷ caller ∷ (big_bytes 8 number ++ frame)
+
+-- the octets of what a reader answers: an event, or none at the end mark
+abbrev pub answer_text : Option ScriptEvent → List ℕ
+answer_text (Some e) = event_text e
+answer_text None = end_mark ∷ []
+
+-- the fields of a File are in their ranges
+pub record FileFits (h : Heading) (caller number : ℕ) (frame : List ℕ) : Type 0 where
+  pub in_caller : caller < h.filers
+  pub in_number : number < 2 ^ 47
+  pub in_frame : IsFrame frame
+
+-- the fields of an event are in their ranges, under this head
+abbrev pub EventFits : Heading → ScriptEvent → Type 0
+EventFits h Tick = Unit {0}
+EventFits h (File caller number frame) = FileFits h caller number frame
+
+-- the first nibble of a frame is 13
+abbrev pub is_signed : List ℕ → Bool
+is_signed frame = slice_index frame 0 / 16 == 13
+
+-- the first fault of the fields of a File, 42 octets at most, of which the first stands at place from
+abbrev pub file_fault : Heading → ℕ → List ℕ → Option RecordFault
+file_fault h from fields =
+    judged fields from 0 1 (λ o. nat_lt (slice_index o 0) h.filers)
+    (judged fields from 1 8 (λ o. nat_lt (big_number 8 o) (2 ^ 47))
+    (judged fields from 9 33 is_signed None))
+
+-- the fault that stands at place `at`, after so many events, where these octets are left
+abbrev pub fault_at : Heading → ℕ → ℕ → List ℕ → Option RecordFault
+fault_at h count at [] = Some (Cut at)
+fault_at h count at (kind ∷ fields) =
+    if kind == end_mark then None
+    else if nat_le event_limit count then Some TooLong
+    else if kind == 1 then None
+    else if kind == 2 then file_fault h (at + 1) (take 42 fields)
+    else Some (Kind at)
+
+-- the octets of a head and of events behind it
+abbrev pub script_text : Heading → List ScriptEvent → List ℕ
+script_text h events = head_text script_magic h ++ flat_map event_text events
+
+-- the input is a script of this head and these events, and then anything
+pub record IsScript (octets : List ℕ) (h : Heading) (events : List ScriptEvent) : Type 0 where
+  pub head : IsHeading h
+  pub fits : AllByRecursion (EventFits h) events
+  pub few : length events ≤ event_limit
+  pub text : (rest : List ℕ) × (octets ≡ script_text h events ++ end_mark ∷ rest)
+
+-- what follows the head and these events has this fault at its front
+pub record FaultAfter (octets : List ℕ) (h : Heading) (events : List ScriptEvent) (f : RecordFault) : Type 0 where
+  pub heading : IsHeading h
+  pub fits : AllByRecursion (EventFits h) events
+  pub few : length events ≤ event_limit
+  pub rest : List ℕ
+  pub text : octets ≡ script_text h events ++ rest
+  pub fault : fault_at h (length events) (length (script_text h events)) rest ≡ Some f
+
+-- the first fault of an input: of its head, or behind some events
+abbrev pub HasFirstFault : List ℕ → RecordFault → Type 0
+HasFirstFault octets f = (head_fault script_magic (take 12 octets) ≡ Some f) ⊎ ((h : Heading) × (events : List ScriptEvent) × FaultAfter octets h events f)
+
+-- no input is both a script and one with a first fault
+abbrev pub ScriptsHaveNoFault : Type 0
+ScriptsHaveNoFault = (octets : List ℕ) (h : Heading) (events : List ScriptEvent) (f : RecordFault) → IsScript octets h events → HasFirstFault octets f → ⊥

@@ -1,0 +1,52 @@
+// The fields of an event, judged from the left.
+ghost use Rattle.std.specs.Prelude.{◌≡◌, ◌≤◌, ◌<◌, ◌+◌, ◌^◌, ◌∷◌, length, None, Some, IfOk, MatchResult};
+ghost use Rattle.recorder.specs.Script.{event_text, EventFits, file_fault};
+
+use crate::events::ScriptEvent;
+use crate::fault::RecordFault;
+use crate::heading::Head;
+use byteorder::{BigEndian, ByteOrder};
+use frame_codec::frame_of;
+
+// Numbers of frames are below this one.
+const NUMBERS: u64 = 1 << 47;
+
+/// The File that has these fields, or their first fault. The first of them stands at octet `from` of the file.
+pub fn file_event(head: &Head, from: u64, fields: &[u8]) -> Result<ScriptEvent, RecordFault>
+    requires few { length fields.now ≤ 42 }
+    requires place { from + 42 < 2 ^ 64 }
+    ensures event { IfOk result (λ e. event_text e ≡ 2 ∷ fields.now) }
+    ensures fits { IfOk result (λ e. EventFits head.now e) }
+    ensures fault { MatchResult result (λ e. file_fault head.now from fields.now ≡ None) (λ f. file_fault head.now from fields.now ≡ Some f) }
+{
+    let cut = RecordFault::Cut {
+        at: from + fields.len() as u64,
+    };
+    if fields.is_empty() {
+        return Err(cut);
+    }
+    let caller = fields[0];
+    if caller >= head.filers {
+        return Err(RecordFault::Field { at: from });
+    }
+    if fields.len() < 9 {
+        return Err(cut);
+    }
+    let number = BigEndian::read_u64(&fields[1..9]);
+    if number >= NUMBERS {
+        return Err(RecordFault::Field { at: from + 1 });
+    }
+    if fields.len() < 42 {
+        return Err(cut);
+    }
+    let mut octets = [0; 33];
+    octets.copy_from_slice(&fields[9..42]);
+    match frame_of(&octets) {
+        Ok(frame) => Ok(ScriptEvent::File {
+            caller,
+            number,
+            frame,
+        }),
+        Err(_) => Err(RecordFault::Field { at: from + 9 }),
+    }
+}

@@ -1,0 +1,24 @@
+//! Scripts and journals: octets read as events with the first fault and its place, and events written as octets.
+#![tactic(auto)]
+
+mod events;
+mod fault;
+mod fields;
+mod heading;
+mod laws;
+mod play_writer;
+mod read;
+mod reading;
+mod script_reader;
+mod tally;
+
+pub use events::{PlayEvent, ScriptEvent};
+pub use fault::{Ending, RecordEnd, RecordFault};
+pub use heading::Head;
+pub use laws::scripts_have_no_fault;
+pub use play_writer::{play_event_of, write_end, write_play, write_play_head};
+pub use script_reader::ScriptReader;
+pub use tally::{PlayTally, Tally};
+
+#[cfg(test)]
+mod tests;

@@ -1,0 +1,93 @@
+// What was counted.
+ghost use Rattle.std.specs.Prelude.{◌≡◌};
+ghost use Rattle.recorder.specs.Tallies.{item_counted, no_plays, no_tally, reply_counted};
+
+use frame_codec::Item;
+use play_machine::FileReply;
+
+/// What a filer's datagrams came to: how many there were, how its frames were answered, and the datagrams
+/// that gave no frame, each under its cause. Each count stands still at 2^64 - 1.
+#[derive(Clone, Copy, Debug, PartialEq, Eq)]
+pub struct Tally {
+    pub datagrams: u64,
+    pub accepted: u64,
+    pub duplicate: u64,
+    pub late: u64,
+    pub beyond: u64,
+    pub refused: u64,
+    pub stranger: u64,
+    pub rtcp: u64,
+    pub empty: u64,
+}
+
+impl Tally {
+    /// Nothing counted.
+    pub fn new() -> Tally
+        ensures { result ≡ no_tally }
+    {
+        Tally {
+            datagrams: 0,
+            accepted: 0,
+            duplicate: 0,
+            late: 0,
+            beyond: 0,
+            refused: 0,
+            stranger: 0,
+            rtcp: 0,
+            empty: 0,
+        }
+    }
+
+    /// Counts the answer to a frame.
+    pub fn reply(&mut self, reply: &FileReply)
+        ensures { self.new ≡ reply_counted self.old reply.now }
+    {
+        match reply {
+            FileReply::Accepted => self.accepted = self.accepted.saturating_add(1),
+            FileReply::Duplicate => self.duplicate = self.duplicate.saturating_add(1),
+            FileReply::Late { .. } => self.late = self.late.saturating_add(1),
+            FileReply::Beyond { .. } => self.beyond = self.beyond.saturating_add(1),
+        }
+    }
+}
+
+/// What a player's beats came to: ticks, of which some played a frame and the others an erasure, and the idle
+/// beats before them. Each count stands still at 2^64 - 1.
+#[derive(Clone, Copy, Debug, PartialEq, Eq)]
+pub struct PlayTally {
+    pub ticks: u64,
+    pub frames: u64,
+    pub erasures: u64,
+    pub idle: u64,
+}
+
+impl PlayTally {
+    /// Nothing counted.
+    pub fn new() -> PlayTally
+        ensures { result ≡ no_plays }
+    {
+        PlayTally {
+            ticks: 0,
+            frames: 0,
+            erasures: 0,
+            idle: 0,
+        }
+    }
+
+    /// Counts what a beat or a tick plays.
+    pub fn item(&mut self, item: &Item)
+        ensures { self.new ≡ item_counted self.old item.now }
+    {
+        match item {
+            Item::Idle => self.idle = self.idle.saturating_add(1),
+            Item::Frame(_) => {
+                self.ticks = self.ticks.saturating_add(1);
+                self.frames = self.frames.saturating_add(1);
+            }
+            Item::Erasure => {
+                self.ticks = self.ticks.saturating_add(1);
+                self.erasures = self.erasures.saturating_add(1);
+            }
+        }
+    }
+}

@@ -1,0 +1,175 @@
+ghost use Rattle.std.specs.Prelude.{◌≤◌};
+
+use super::*;
+use frame_codec::{Item, frame_of};
+use gate_base::OutOfMemory;
+use gate_io::{MemorySink, MemorySource};
+use std::alloc::Global;
+use std::test::Fail;
+
+// A head of one filer, 2^6 slots and delay 3, three events and the end mark: 100 octets.
+fn script() -> [u8; 100] {
+    let mut octets = [0xDA; 100];
+    octets[..12].copy_from_slice(b"GSMGSC01\x01\x06\x00\x03");
+    octets[12] = 0x02;
+    octets[13] = 0;
+    octets[14..22].copy_from_slice(b"\0\0\0\x01\0\0\0\x40");
+    octets[55] = 0x01;
+    octets[56] = 0x02;
+    octets[57] = 0;
+    octets[58..66].copy_from_slice(b"\0\0\x7F\xFF\xFF\xFF\xFF\xFF");
+    octets[99] = 0xFF;
+    octets
+}
+
+// Whether the end mark comes behind three events.
+fn ends(source: &mut MemorySource) -> Result<bool, RecordEnd> {
+    let mut reader = ScriptReader::new();
+    reader.head(source)?;
+    reader.next(source)?;
+    reader.next(source)?;
+    reader.next(source)?;
+    Ok(reader.next(source)?.is_none())
+}
+
+// The answer to these octets, which come in pieces of this size.
+fn read(alloc: Global, octets: &[u8], piece: usize) -> Result<Result<bool, RecordEnd>, OutOfMemory>
+    requires { 1 ≤ piece }
+{
+    let mut source = MemorySource::new(alloc, octets, piece, &[])?;
+    Ok(ends(&mut source))
+}
+
+#[test]
+fn each_cut_of_a_script_is_told_with_its_place(rt: HostRuntime) -> Result<(), Fail> {
+    let octets = script();
+    assert_eq!(rt; read(rt.alloc(), &octets, 1)?, Ok(true));
+    assert_eq!(rt; read(rt.alloc(), &octets, 100)?, Ok(true));
+    for n in 0..100 {
+        let fault = RecordFault::Cut { at: n as u64 };
+        assert_eq!(rt;
+            read(rt.alloc(), &octets[..n], 7)?,
+            Err(RecordEnd::Fault(fault))
+        );
+    }
+    Ok(())
+}
+
+#[test]
+fn a_wrong_octet_is_told_with_its_place(rt: HostRuntime) -> Result<(), Fail> {
+    let field = |at| RecordFault::Field { at };
+    let kind = |at| RecordFault::Kind { at };
+    let cases = [
+        (0, 0x00, RecordFault::Magic),
+        (7, 0x32, RecordFault::Magic),
+        (8, 0, field(8)),
+        (8, 65, field(8)),
+        (9, 11, field(9)),
+        (11, 64, field(10)),
+        (12, 0x09, kind(12)),
+        (12, 0x03, kind(12)),
+        (12, 0x04, kind(12)),
+        (13, 1, field(13)),
+        (14, 0x80, field(14)),
+        (22, 0xC8, field(22)),
+        (55, 0x00, kind(55)),
+        (59, 0x80, field(58)),
+        (66, 0xE0, field(66)),
+    ];
+    for (at, octet, fault) in cases {
+        let mut octets = script();
+        assert!(rt; at < 100);
+        octets[at] = octet;
+        assert_eq!(rt; read(rt.alloc(), &octets, 3)?, Err(RecordEnd::Fault(fault)));
+    }
+    Ok(())
+}
+
+#[test]
+fn the_events_of_a_script_are_read_and_its_end_is_kept(rt: HostRuntime) -> Result<(), Fail> {
+    let octets = script();
+    let mut source = MemorySource::new(rt.alloc(), &octets, 1, &[])?;
+    let mut reader = ScriptReader::new();
+    let head = Head {
+        filers: 1,
+        g: 6,
+        delay: 3,
+    };
+    assert_eq!(rt; reader.head(&mut source), Ok(head));
+    assert_eq!(rt; reader.head(&mut source), Ok(head));
+    let first = reader.next(&mut source);
+    assert!(rt;
+        matches!(
+            first,
+            Ok(Some(ScriptEvent::File {
+                caller: 0,
+                number: 4294967360,
+                ..
+            }))
+        )
+    );
+    assert!(rt; matches!(reader.next(&mut source), Ok(Some(ScriptEvent::Tick))));
+    let last = reader.next(&mut source);
+    assert!(rt;
+        matches!(
+            last,
+            Ok(Some(ScriptEvent::File {
+                number: 140737488355327,
+                ..
+            }))
+        )
+    );
+    assert!(rt; matches!(reader.next(&mut source), Ok(None)));
+    assert!(rt; matches!(reader.next(&mut source), Ok(None)));
+    scripts_have_no_fault();
+    Ok(())
+}
+
+#[test]
+fn a_fault_and_a_failed_read_are_answered_again(rt: HostRuntime) -> Result<(), Fail> {
+    let octets = script();
+    let mut source = MemorySource::new(rt.alloc(), &octets, 10, &[3])?;
+    let mut reader = ScriptReader::new();
+    assert!(rt; reader.head(&mut source).is_ok());
+    assert!(rt; matches!(reader.next(&mut source), Err(RecordEnd::ReadFailed)));
+    assert!(rt; matches!(reader.next(&mut source), Err(RecordEnd::ReadFailed)));
+    let mut wrong = MemorySource::new(rt.alloc(), &octets[1..], 10, &[])?;
+    let mut refused = ScriptReader::new();
+    let magic = Err(RecordEnd::Fault(RecordFault::Magic));
+    assert_eq!(rt; refused.head(&mut wrong), magic);
+    assert_eq!(rt; refused.head(&mut source), magic);
+    Ok(())
+}
+
+#[test]
+fn a_journal_of_each_event_has_its_octets(rt: HostRuntime) -> Result<(), Fail> {
+    let mut sink = MemorySink::new(rt.alloc(), 100, &[])?;
+    let head = Head {
+        filers: 64,
+        g: 10,
+        delay: 1023,
+    };
+    assert_eq!(rt; write_play_head(&head, &mut sink), Ok(()));
+    let mut octets = [0x55; 33];
+    octets[0] = 0xDE;
+    let Ok(frame) = frame_of(&octets) else {
+        return Ok(());
+    };
+    let items = [Item::Idle, Item::Erasure, Item::Frame(frame)];
+    for item in items {
+        assert_eq!(rt; write_play(&play_event_of(item), &mut sink), Ok(()));
+    }
+    assert_eq!(rt;
+        write_play(&PlayEvent::Base { base: 1000 }, &mut sink),
+        Ok(())
+    );
+    assert_eq!(rt; write_end(&mut sink), Ok(()));
+    let given = sink.octets();
+    assert_eq!(rt; given.len(), 54);
+    assert_eq!(rt;
+        given[..16],
+        *b"GSMGPJ01\x40\x0A\x03\xFF\x10\x12\x13\xDE".as_slice()
+    );
+    assert_eq!(rt; given[47..], *b"\x55\x11\0\0\x03\xE8\xFF".as_slice());
+    Ok(())
+}

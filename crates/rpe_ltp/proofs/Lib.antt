@@ -1,0 +1,3 @@
+pub mod PulseLaws
+pub mod HistoryLaws
+pub mod LongTermLaws

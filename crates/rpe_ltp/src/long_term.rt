@@ -1,0 +1,93 @@
+// Long-term synthesis: GSM 06.10 section 5.3.2.
+ghost use Rattle.std.specs.Prelude.{◌≡◌, ◌≤◌, ℕ, ◌<◌, ◌-◌, ◌∷◌, ◌++◌, [], ℤ, pos, List};
+ghost use Rattle.fixed_arith.specs.Word.{add_words, mult_r_words};
+ghost use Rattle.fixed_arith.specs.Signal.{at};
+ghost use Rattle.frame_codec.specs.declared.params.SubParams.{SubParams};
+ghost use Rattle.frame_codec.specs.Frame.{SubFits};
+ghost use Rattle.rpe_ltp.specs.History.{back_at};
+ghost use Rattle.rpe_ltp.specs.LongTerm.{lag_after, Remembers};
+
+use crate::history::LagHistory;
+use crate::pulses::excitation;
+use fixed_arith::{add, mult_r};
+use frame_codec::SubParams;
+use std::marker::Model;
+
+/// The gain of each code, as a fraction of 15 binary places (`QLB`).
+const GAINS: [i16; 4] = [3277, 11469, 21299, 32767];
+
+/// What the next sub-frame needs of those before: the last 120 values, and the last lag that was in range.
+#[derive(Drop)]
+pub struct LongTerm {
+    history: LagHistory,
+    lag: u8,
+}
+
+impl Model for LongTerm {
+    ghost use Rattle.std.specs.Prelude.{◌≤◌};
+    ghost use Rattle.rpe_ltp.specs.LongTerm.{Memory};
+
+    ghost Value = { Memory };
+
+    ghost view = { λ l. record { history = l.history; lag = l.lag } };
+
+    ghost invariant = { λ l. (40 ≤ l.lag) × (l.lag ≤ 120) };
+}
+
+impl LongTerm {
+    /// No sub-frame so far.
+    pub fn new() -> Self
+        ensures { Remembers [] [] result }
+    {
+        LongTerm {
+            history: LagHistory::new(),
+            lag: 40,
+        }
+    }
+
+    /// The values (`drp`) of the next sub-frame.
+    pub fn step(&mut self, sub: &SubParams) -> [i16; 40]
+        requires fits { SubFits sub.now }
+
+        // The sub-frames before and this one are one list.
+        ensures goes_on { (subs : List SubParams) (values : List ℤ) → Remembers subs values self.old
+            → Remembers (subs ++ sub.now ∷ []) (values ++ result) self.new }
+    {
+        self.lag = lag(sub.nc, self.lag);
+        let values = sub_frame(
+            &self.history,
+            self.lag as usize,
+            GAINS[sub.bc as usize],
+            &excitation(sub),
+        );
+        self.history.push(&values);
+        values
+    }
+}
+
+/// The lag of a sub-frame: its code where that is in range, else the lag before.
+#[inline]
+#[tactic(auto, unfolding(crate::specs::LongTerm::lag_after))]
+fn lag(nc: u8, before: u8) -> u8
+    requires least { 40 ≤ before }
+    requires most { before ≤ 120 }
+    ensures value { result ≡ lag_after before nc }
+    ensures least { 40 ≤ result }
+    ensures most { result ≤ 120 }
+{
+    if 40 <= nc && nc <= 120 { nc } else { before }
+}
+
+/// The values of a sub-frame: each is its pulse and what the gain makes of the value one lag before.
+#[inline]
+fn sub_frame(history: &LagHistory, lag: usize, gain: i16, pulses: &[i16; 40]) -> [i16; 40]
+    requires least { 40 ≤ lag }
+    requires most { lag ≤ 120 }
+    ensures { (k : ℕ) → k < 40 → at result k ≡ add_words (at pulses.now k) (mult_r_words gain (back_at history.now (lag - k))) }
+{
+    let mut values = [0; 40];
+    for k in 0..40 {
+        values[k] = add(pulses[k], mult_r(gain, history.at(lag - k)));
+    }
+    values
+}
