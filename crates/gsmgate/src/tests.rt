@@ -84,7 +84,7 @@ struct Ended {
     notes: MemorySink,
 }
 
-fn ended(
+fn run_over(
     alloc: Global,
     line: &str,
     octets: &[u8],
@@ -274,23 +274,23 @@ fn frames_are_decoded_to_octets(rt: HostRuntime) -> Result<(), Fail> {
         octets: Vec::new(alloc),
     };
     frame.frame(&ZEROS, &ZERO_PART)?;
-    let whole = ended(alloc, "decode in out", &frame.octets, 5, &[], &[])?;
+    let whole = run_over(alloc, "decode in out", &frame.octets, 5, &[], &[])?;
     assert_eq!(rt; whole.status, Status::Done);
     assert_eq!(rt; *whole.notes.octets(), *b"frames 1\n".as_slice());
     assert_eq!(rt; whole.output.octets().len(), 320);
     assert!(rt; whole.output.octets().starts_with(&[8, 0, 0, 0, 0, 0, 8, 0]));
     frame.put(&[0xD8])?;
-    let cut = ended(alloc, "decode in out", &frame.octets, 5, &[], &[])?;
+    let cut = run_over(alloc, "decode in out", &frame.octets, 5, &[], &[])?;
     assert_eq!(rt; cut.status, Status::Input);
     assert_eq!(rt; *cut.notes.octets(), *b"input 0 cut 34\n".as_slice());
     assert_eq!(rt; cut.output.octets().len(), 320);
-    let other = ended(alloc, "decode in out", &[0xC8; 33], 33, &[], &[])?;
+    let other = run_over(alloc, "decode in out", &[0xC8; 33], 33, &[], &[])?;
     assert_eq!(rt; other.status, Status::Input);
     assert_eq!(rt; *other.notes.octets(), *b"input 0 field 0\n".as_slice());
-    let none = ended(alloc, "decode in out", &[], 1, &[], &[])?;
+    let none = run_over(alloc, "decode in out", &[], 1, &[], &[])?;
     assert_eq!(rt; none.status, Status::Done);
     assert_eq!(rt; *none.notes.octets(), *b"frames 0\n".as_slice());
-    let broken = ended(alloc, "decode in out", &frame.octets, 5, &[], &[(0, 7)])?;
+    let broken = run_over(alloc, "decode in out", &frame.octets, 5, &[], &[(0, 7)])?;
     assert_eq!(rt; broken.status, Status::WriteFault);
     assert_eq!(rt; broken.output.octets().len(), 7);
     Ok(())
