@@ -116,7 +116,7 @@ fn simulated(
 ) -> Result<Ended, Fail>
     requires { 1 ≤ piece }
 {
-    ended(
+    run_over(
         alloc,
         "simulate in out",
         octets,
