@@ -1,0 +1,4 @@
+pub mod Chains
+pub mod Filing
+pub mod Cases
+pub mod RunsOn
