@@ -26,6 +26,13 @@ Tells (Ok x) fault = fault ≡ None
 Tells (Err (Fault f)) fault = fault ≡ Some f
 Tells (Err ReadFailed) fault = Unit {0}
 
+-- the same of an answer that goes no further than a kind: at a kind nothing is told yet
+abbrev pub TellsNoKind : Result (Option ℕ) RecordEnd → Option RecordFault → Type 0
+TellsNoKind (Ok (Some kind)) fault = Unit {0}
+TellsNoKind (Ok None) fault = fault ≡ None
+TellsNoKind (Err (Fault f)) fault = fault ≡ Some f
+TellsNoKind (Err ReadFailed) fault = Unit {0}
+
 -- what a reader that is over answers
 abbrev pub again : {T : Type 0} → Ending → Result (Option T) RecordEnd
 again Mark = Ok None
