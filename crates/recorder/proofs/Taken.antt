@@ -8,6 +8,7 @@ use Rattle.std.proofs.lemmas.List.{length-take-le}
 use Rattle.std.proofs.Common.{slice_index}
 use Rattle.std.proofs.lemmas.Bool.Decides.{nat_tests}
 use Rattle.recorder.specs.declared.fault.RecordFault.{RecordFault}
+use Rattle.recorder.specs.Fields.{judged_behind}
 use Rattle.recorder.specs.Heads.{Heading}
 use Rattle.recorder.specs.Files.{end_mark, event_limit, fault_by}
 use Rattle.recorder.specs.Script.{fault_at, file_fault}
@@ -50,3 +51,12 @@ behind_kind (Some xs) (Some ys) kind count at behind Q other few took q =
 -- behind the kind of a File, within the limit, the fields decide
 pub file_next : (h : Heading) (count at : ℕ) (rest : List ℕ) → count < event_limit → fault_at h count at (2 ∷ rest) ≡ file_fault h (at + 1) (take 42 rest)
 file_next h count at rest few = grind (arith, nat_tests)
+
+-- and where those octets are as many as stand behind the kind, what holds of the fault of those that came holds of the file's
+pub told_behind : (old mid new : Option (List ℕ)) (kind count at n m : ℕ) (piece : List ℕ) (widths : ℕ → Option ℕ) (judge : ℕ → ℕ → List ℕ → Option RecordFault) (P : Option RecordFault → Type 0)
+    → kind ≢ end_mark → count < event_limit → Consumes old mid (kind ∷ []) → widths kind ≡ Some m → n ≤ m → length piece ≡ m → Consumes mid new (take n piece) → (n < m → IsAtEnd new)
+    → P (judge kind (at + 1) (take n piece)) → IfSome old (λ octets. P (fault_by (λ k. judged_behind (widths k) (judge k)) count at octets))
+told_behind old mid new kind count at n m piece widths judge P other few took width le len read end p =
+    behind_kind old mid kind count at (λ k. judged_behind (widths k) (judge k)) P other few took
+    (subst (λ (o : Option ℕ). IfSome mid (λ rest. P (judged_behind o (judge kind) at rest))) (sym width)
+    (told mid new n m piece (λ (l : List ℕ). P (judge kind (at + 1) l)) le len read end p))

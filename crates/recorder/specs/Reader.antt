@@ -1,11 +1,13 @@
 -- A reader of events, by what it has read.
-use Rattle.std.specs.Prelude.{ℕ, ◌+◌, List, length, ◌≡◌, Option, Some, None, Result, Ok, Err}
+use Rattle.std.specs.Prelude.{ℕ, ◌+◌, List, length, Bool, true, ◌≡◌, Option, Some, None, Result, Ok, Err}
 use Rattle.recorder.specs.declared.fault.RecordFault.{RecordFault}
 use Rattle.recorder.specs.declared.fault.RecordEnd.{RecordEnd}
 use Rattle.recorder.specs.declared.fault.RecordEnd.TheVariants.{Fault, ReadFailed}
 use Rattle.recorder.specs.declared.fault.Ending.{Ending}
 use Rattle.recorder.specs.declared.fault.Ending.TheVariants.{Mark, Refused}
 use Rattle.recorder.specs.declared.events.ScriptEvent.{ScriptEvent}
+use Rattle.recorder.specs.declared.events.PlayEvent.{PlayEvent}
+use Rattle.recorder.specs.Play.{may_open, play_event_text}
 use Rattle.recorder.specs.Script.{event_text}
 use Rattle.recorder.specs.Heads.{Heading}
 
@@ -59,3 +61,28 @@ head_again (Some h) over = Some (Ok h)
 head_again None None = None
 head_again None (Some Mark) = None
 head_again None (Some (Refused e)) = Some (Err e)
+
+-- ---- of the player's journal
+
+-- besides, whether Idle and Base may come
+pub record PlayProgress : Type 0 where
+  pub reading : Progress
+  pub opening : Bool
+
+-- before any octet was read
+abbrev pub fresh_play : PlayProgress
+fresh_play = record { reading = fresh; opening = true }
+
+-- a reader after its first answer
+abbrev pub headed_play : Result Heading RecordEnd → PlayProgress
+headed_play result = record { reading = headed result; opening = true }
+
+-- whether Idle and Base may come after an answer
+abbrev pub opening_after : Bool → Result (Option PlayEvent) RecordEnd → Bool
+opening_after opening (Ok (Some e)) = may_open e
+opening_after opening (Ok None) = opening
+opening_after opening (Err e) = opening
+
+-- a reader after an answer
+abbrev pub stepped_play : PlayProgress → Result (Option PlayEvent) RecordEnd → PlayProgress
+stepped_play p result = record { reading = stepped_by play_event_text p.reading result; opening = opening_after p.opening result }

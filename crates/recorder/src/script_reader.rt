@@ -10,7 +10,7 @@ ghost use Rattle.recorder.specs.Script.{EventFits, answer_text, event_text, faul
 use crate::events::ScriptEvent;
 use crate::fault::{Ending, RecordEnd};
 use crate::heading::Head;
-use crate::reading::Reading;
+use crate::reading::{Reading, answer_again};
 use crate::script_read::read_event;
 use gate_io::Source;
 use std::marker::Model;
@@ -85,16 +85,6 @@ impl ScriptReader {
                 Err(end)
             }
         }
-    }
-}
-
-// What a reader that is over answers.
-fn answer_again(over: Ending) -> Result<Option<ScriptEvent>, RecordEnd>
-    ensures { result ≡ again over }
-{
-    match over {
-        Ending::Mark => Ok(None),
-        Ending::Refused(end) => Err(end),
     }
 }
 
