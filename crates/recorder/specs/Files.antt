@@ -1,5 +1,5 @@
 -- What the files have in common: events behind a head, and then the end mark.
-use Rattle.std.specs.Prelude.{ℕ, ◌+◌, ◌/◌, List, [], ◌∷◌, length, slice_index, Bool, ◌==◌, nat_le, Option, Some, None, if◌then◌else◌}
+use Rattle.std.specs.Prelude.{ℕ, ◌/◌, List, [], ◌∷◌, slice_index, Bool, ◌==◌, nat_le, Option, Some, None, if◌then◌else◌}
 use Rattle.recorder.specs.declared.fault.RecordFault.{RecordFault}
 use Rattle.recorder.specs.declared.fault.RecordFault.TheVariants.{Cut, TooLong}
 

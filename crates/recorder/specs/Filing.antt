@@ -1,14 +1,11 @@
 -- A filer's journal.
-use Rattle.std.specs.Prelude.{◌≡◌, ℕ, ◌+◌, ◌≤◌, ◌<◌, ◌^◌, List, [], ◌∷◌, ◌++◌, slice_index, drop, Bool, true, false, ◌&&◌, ◌||◌, ◌==◌, nat_lt, nat_le, Option, None, Some, if◌then◌else◌}
-use Rattle.byteorder.specs.Endian.{big_bytes, big_number}
+use Rattle.std.specs.Prelude.{◌≡◌, ℕ, ◌<◌, ◌^◌, List, [], ◌∷◌, ◌++◌, Bool, true, false, ◌&&◌, ◌||◌, ◌==◌, nat_le}
+use Rattle.byteorder.specs.Endian.{big_bytes}
 use Rattle.frame_codec.specs.Octets.{IsFrame}
 use Rattle.play_machine.specs.declared.reply.FileReply.{FileReply}
 use Rattle.play_machine.specs.declared.reply.FileReply.TheVariants.{Accepted, Duplicate, Late, Beyond}
 use Rattle.recorder.specs.declared.events.FilerEvent.{FilerEvent}
 use Rattle.recorder.specs.declared.events.FilerEvent.TheVariants.{Source, Base, File, Refused, Rtcp, Stranger, Empty}
-use Rattle.recorder.specs.declared.fault.RecordFault.{RecordFault}
-use Rattle.recorder.specs.Fields.{judged, judged_behind}
-use Rattle.recorder.specs.Files.{is_signed, fault_by}
 use Rattle.recorder.specs.Heads.{Heading, head_text, filer_magic}
 
 -- the thirteen octets of a filer's head

@@ -31,9 +31,13 @@ abbrev pub EventFits : Heading → ScriptEvent → Type 0
 EventFits h Tick = Unit {0}
 EventFits h (File caller number frame) = FileFits h caller number frame
 
--- the fields of an event are in their ranges, under some head
+-- a head with the most filers
+abbrev pub widest : Heading
+widest = record { filers = 64; g = 10; delay = 0 }
+
+-- the fields of an event are in their ranges, under some head, and so under the widest
 abbrev pub FitsSomeHead : ScriptEvent → Type 0
-FitsSomeHead e = (h : Heading) × IsHeading h × EventFits h e
+FitsSomeHead e = EventFits widest e
 
 -- the first fault of the fields of a File, 42 octets at most, of which the first stands at place from
 abbrev pub file_fault : Heading → ℕ → List ℕ → Option RecordFault

@@ -20,25 +20,22 @@ pub fn file_event(head: &Head, from: u64, fields: &[u8]) -> Result<ScriptEvent, 
     ensures fits { IfOk result (λ e. EventFits head.now e) }
     ensures fault { MatchResult result (λ e. file_fault head.now from fields.now ≡ None) (λ f. file_fault head.now from fields.now ≡ Some f) }
 {
-    let cut = RecordFault::Cut {
-        at: from + fields.len() as u64,
-    };
     if fields.is_empty() {
-        return Err(cut);
+        return Err(cut_behind(from, fields));
     }
     let caller = fields[0];
     if caller >= head.filers {
         return Err(RecordFault::Field { at: from });
     }
     if fields.len() < 9 {
-        return Err(cut);
+        return Err(cut_behind(from, fields));
     }
     let number = BigEndian::read_u64(&fields[1..9]);
     if number >= NUMBERS {
         return Err(RecordFault::Field { at: from + 1 });
     }
     if fields.len() < 42 {
-        return Err(cut);
+        return Err(cut_behind(from, fields));
     }
     match frame_at(&fields[9..42], from + 9) {
         Ok(frame) => Ok(ScriptEvent::File {
@@ -47,6 +44,16 @@ pub fn file_event(head: &Head, from: u64, fields: &[u8]) -> Result<ScriptEvent, 
             frame,
         }),
         Err(fault) => Err(fault),
+    }
+}
+
+/// Where the file is cut off that ends behind these fields.
+pub fn cut_behind(from: u64, fields: &[u8]) -> RecordFault
+    requires { from + length fields.now < 2 ^ 64 }
+    ensures { result ≡ RecordFault.Cut (from + length fields.now) }
+{
+    RecordFault::Cut {
+        at: from + fields.len() as u64,
     }
 }
 

@@ -8,7 +8,7 @@ ghost use Rattle.recorder.specs.Reader.{Tells};
 
 use crate::events::PlayEvent;
 use crate::fault::{RecordEnd, RecordFault};
-use crate::fields::frame_at;
+use crate::fields::{cut_behind, frame_at};
 use crate::read::read_kind;
 use byteorder::{BigEndian, ByteOrder};
 use gate_io::{Failed, Source, fill};
@@ -36,15 +36,12 @@ fn play_event(opening: bool, kind: u8, from: u64, fields: &[u8]) -> Result<PlayE
     ensures fits { IfOk result (λ e. PlayFits opening e) }
     ensures fault { MatchResult result (λ e. play_field_fault kind from fields.now ≡ None) (λ f. play_field_fault kind from fields.now ≡ Some f) }
 {
-    let cut = RecordFault::Cut {
-        at: from + fields.len() as u64,
-    };
     match kind {
         0x10 => Ok(PlayEvent::Idle),
         0x12 => Ok(PlayEvent::Erasure),
         0x11 => {
             if fields.len() < 4 {
-                return Err(cut);
+                return Err(cut_behind(from, fields));
             }
             Ok(PlayEvent::Base {
                 base: BigEndian::read_u32(fields),
@@ -52,7 +49,7 @@ fn play_event(opening: bool, kind: u8, from: u64, fields: &[u8]) -> Result<PlayE
         }
         _ => {
             if fields.len() < 33 {
-                return Err(cut);
+                return Err(cut_behind(from, fields));
             }
             match frame_at(fields, from) {
                 Ok(frame) => Ok(PlayEvent::Frame(frame)),

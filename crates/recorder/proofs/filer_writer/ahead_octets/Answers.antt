@@ -1,4 +1,4 @@
-use Rattle.std.proofs.Common.{◌≡◌, ℕ, List, [], ◌∷◌, ◌++◌, length, ap, ◌∙◌, refl, arith}
+use Rattle.std.proofs.Common.{◌≡◌, ℕ, List, [], ◌∷◌, ◌++◌, ap, ◌∙◌, refl, arith}
 use Rattle.byteorder.specs.Endian.{big_bytes}
 use Rattle.recorder.proofs.Written.{put_behind}
 use Rattle.recorder.proofs.filer_writer.ahead_octets.Goals as goal
