@@ -1,14 +1,16 @@
 -- What a piece that was filled from a source tells of what the source had.
-use Rattle.std.proofs.Common.{◌≡◌, ℕ, zero, suc, ◌+◌, ◌≤◌, ◌<◌, List, [], ◌∷◌, ◌++◌, length, take, Option, Some, None, refl, sym, ap, subst, ◌∙◌, append-nil, arith, inl, inr}
+use Rattle.std.proofs.Common.{◌≡◌, ◌≢◌, ℕ, zero, suc, ◌+◌, ◌≤◌, ◌<◌, List, [], ◌∷◌, ◌++◌, length, take, Option, Some, None, refl, sym, ap, subst, ◌∙◌, append-nil, arith, inl, inr}
 use Rattle.std.specs.Prelude.{IfSome}
 use Rattle.std.specs.Io.KnownBytes.{Consumes, IsAtEnd}
 use Rattle.std.proofs.Math.Seq.{take-append_seam}
 use Rattle.std.proofs.lemmas.Bool.{cases_lt}
 use Rattle.std.proofs.lemmas.List.{length-take-le}
-use Rattle.std.proofs.Common.{slice_index}
 use Rattle.std.proofs.lemmas.Bool.Decides.{nat_tests}
+use Rattle.recorder.specs.declared.fault.RecordFault.{RecordFault}
+use Rattle.recorder.specs.Fields.{judged_behind}
 use Rattle.recorder.specs.Heads.{Heading}
-use Rattle.recorder.specs.Script.{event_limit, fault_at, file_fault}
+use Rattle.recorder.specs.Files.{end_mark, event_limit, fault_by}
+use Rattle.recorder.specs.Script.{fault_at, file_fault}
 
 take-short : (m : ℕ) (xs : List ℕ) → length xs ≤ m → take m xs ≡ xs
 take-short zero [] le = refl
@@ -36,18 +38,24 @@ told None new n m piece P le len took end p = tt
 told (Some octets) None n m piece P le len took end p = absurd took
 told (Some octets) (Some rest) n m piece P le len took end p = subst P (sym (front_is n m octets rest piece le len took end)) p
 
--- behind a piece of one octet, the kind, what holds of the rest holds of the whole
-pub behind_kind : (old mid : Option (List ℕ)) (piece : List ℕ) (kind : ℕ) (P Q : List ℕ → Type 0) → length piece ≡ 1 → slice_index piece 0 ≡ kind → Consumes old mid piece
-    → ((rest : List ℕ) → Q rest → P (kind ∷ rest)) → IfSome mid Q → IfSome old P
-behind_kind None mid piece kind P Q one is took f q = tt
-behind_kind (Some xs) None piece kind P Q one is took f q = absurd took
-behind_kind (Some xs) (Some ys) piece kind P Q one is took f q = subst P (sym (took ∙ ap (λ (l : List ℕ). l ++ ys) (single piece kind one is))) (f ys q)
-  where
-    single : (piece : List ℕ) (kind : ℕ) → length piece ≡ 1 → slice_index piece 0 ≡ kind → piece ≡ kind ∷ []
-    single [] kind one is = absurd (omega arith)
-    single (k ∷ []) kind one is = ap (λ (n : ℕ). n ∷ []) is
-    single (k ∷ l ∷ piece) kind one is = absurd (omega arith)
+-- behind a kind that is no end mark, within the limit, what follows it decides
+pub behind_kind : (old mid : Option (List ℕ)) (kind count at : ℕ) (behind : ℕ → ℕ → List ℕ → Option RecordFault) (Q : Option RecordFault → Type 0) → kind ≢ end_mark → count < event_limit
+    → Consumes old mid (kind ∷ []) → IfSome mid (λ rest. Q (behind kind at rest)) → IfSome old (λ octets. Q (fault_by behind count at octets))
+behind_kind None mid kind count at behind Q other few took q = tt
+behind_kind (Some xs) None kind count at behind Q other few took q = absurd took
+behind_kind (Some xs) (Some ys) kind count at behind Q other few took q =
+    let is : fault_by behind count at (kind ∷ ys) ≡ behind kind at ys = grind (arith, nat_tests, other) in
+    subst (λ (l : List ℕ). Q (fault_by behind count at l)) (sym took) (subst Q (sym is) q)
 
 -- behind the kind of a File, within the limit, the fields decide
 pub file_next : (h : Heading) (count at : ℕ) (rest : List ℕ) → count < event_limit → fault_at h count at (2 ∷ rest) ≡ file_fault h (at + 1) (take 42 rest)
 file_next h count at rest few = grind (arith, nat_tests)
+
+-- and where those octets are as many as stand behind the kind, what holds of the fault of those that came holds of the file's
+pub told_behind : (old mid new : Option (List ℕ)) (kind count at n m : ℕ) (piece : List ℕ) (widths : ℕ → Option ℕ) (judge : ℕ → ℕ → List ℕ → Option RecordFault) (P : Option RecordFault → Type 0)
+    → kind ≢ end_mark → count < event_limit → Consumes old mid (kind ∷ []) → widths kind ≡ Some m → n ≤ m → length piece ≡ m → Consumes mid new (take n piece) → (n < m → IsAtEnd new)
+    → P (judge kind (at + 1) (take n piece)) → IfSome old (λ octets. P (fault_by (λ k. judged_behind (widths k) (judge k)) count at octets))
+told_behind old mid new kind count at n m piece widths judge P other few took width le len read end p =
+    behind_kind old mid kind count at (λ k. judged_behind (widths k) (judge k)) P other few took
+    (subst (λ (o : Option ℕ). IfSome mid (λ rest. P (judged_behind o (judge kind) at rest))) (sym width)
+    (told mid new n m piece (λ (l : List ℕ). P (judge kind (at + 1) l)) le len read end p))

@@ -13,7 +13,8 @@ use Rattle.recorder.specs.declared.events.ScriptEvent.{ScriptEvent}
 use Rattle.recorder.specs.declared.events.ScriptEvent.TheVariants.{Tick, File}
 use Rattle.recorder.specs.Fields.{judged}
 use Rattle.recorder.specs.Heads.{Heading, IsHeading, head_fault, head_text, script_magic}
-use Rattle.recorder.specs.Script.{end_mark, event_limit, event_text, EventFits, FileFits, file_fault, is_signed, fault_at, script_text, ScriptsHaveNoFault}
+use Rattle.recorder.specs.Files.{end_mark, event_limit, is_signed}
+use Rattle.recorder.specs.Script.{event_text, EventFits, FileFits, file_fault, fault_at, script_text, ScriptsHaveNoFault}
 use Rattle.recorder.proofs.Taken.{file_next}
 use Rattle.recorder.proofs.Spelled.{take-all}
 

@@ -25,6 +25,9 @@ script_magic = codes "GSMGSC01"
 abbrev pub play_magic : List ℕ
 play_magic = codes "GSMGPJ01"
 
+abbrev pub filer_magic : List ℕ
+filer_magic = codes "GSMGFJ01"
+
 -- the twelve octets of a head
 abbrev pub head_text : List ℕ → Heading → List ℕ
 head_text magic h = magic ++ (h.filers ∷ h.g ∷ big_bytes 2 h.delay)

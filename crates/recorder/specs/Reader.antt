@@ -1,11 +1,13 @@
 -- A reader of events, by what it has read.
-use Rattle.std.specs.Prelude.{ℕ, ◌+◌, List, length, ◌≡◌, Option, Some, None, Result, Ok, Err}
+use Rattle.std.specs.Prelude.{ℕ, ◌+◌, List, length, Bool, true, ◌≡◌, Option, Some, None, Result, Ok, Err}
 use Rattle.recorder.specs.declared.fault.RecordFault.{RecordFault}
 use Rattle.recorder.specs.declared.fault.RecordEnd.{RecordEnd}
 use Rattle.recorder.specs.declared.fault.RecordEnd.TheVariants.{Fault, ReadFailed}
 use Rattle.recorder.specs.declared.fault.Ending.{Ending}
 use Rattle.recorder.specs.declared.fault.Ending.TheVariants.{Mark, Refused}
 use Rattle.recorder.specs.declared.events.ScriptEvent.{ScriptEvent}
+use Rattle.recorder.specs.declared.events.PlayEvent.{PlayEvent}
+use Rattle.recorder.specs.Play.{may_open, play_event_text}
 use Rattle.recorder.specs.Script.{event_text}
 use Rattle.recorder.specs.Heads.{Heading}
 
@@ -25,6 +27,13 @@ abbrev pub Tells : {T : Type 0} → Result T RecordEnd → Option RecordFault �
 Tells (Ok x) fault = fault ≡ None
 Tells (Err (Fault f)) fault = fault ≡ Some f
 Tells (Err ReadFailed) fault = Unit {0}
+
+-- the same of an answer that goes no further than a kind: at a kind nothing is told yet
+abbrev pub TellsNoKind : Result (Option ℕ) RecordEnd → Option RecordFault → Type 0
+TellsNoKind (Ok (Some kind)) fault = Unit {0}
+TellsNoKind (Ok None) fault = fault ≡ None
+TellsNoKind (Err (Fault f)) fault = fault ≡ Some f
+TellsNoKind (Err ReadFailed) fault = Unit {0}
 
 -- what a reader that is over answers
 abbrev pub again : {T : Type 0} → Ending → Result (Option T) RecordEnd
@@ -52,3 +61,28 @@ head_again (Some h) over = Some (Ok h)
 head_again None None = None
 head_again None (Some Mark) = None
 head_again None (Some (Refused e)) = Some (Err e)
+
+-- ---- of the player's journal
+
+-- besides, whether Idle and Base may come
+pub record PlayProgress : Type 0 where
+  pub reading : Progress
+  pub opening : Bool
+
+-- before any octet was read
+abbrev pub fresh_play : PlayProgress
+fresh_play = record { reading = fresh; opening = true }
+
+-- a reader after its first answer
+abbrev pub headed_play : Result Heading RecordEnd → PlayProgress
+headed_play result = record { reading = headed result; opening = true }
+
+-- whether Idle and Base may come after an answer
+abbrev pub opening_after : Bool → Result (Option PlayEvent) RecordEnd → Bool
+opening_after opening (Ok (Some e)) = may_open e
+opening_after opening (Ok None) = opening
+opening_after opening (Err e) = opening
+
+-- a reader after an answer
+abbrev pub stepped_play : PlayProgress → Result (Option PlayEvent) RecordEnd → PlayProgress
+stepped_play p result = record { reading = stepped_by play_event_text p.reading result; opening = opening_after p.opening result }

@@ -1,22 +1,15 @@
 -- The script: a head, events and the end mark.
-use Rattle.std.specs.Prelude.{ℕ, ◌+◌, ◌/◌, ◌≡◌, ◌≤◌, ◌<◌, ◌^◌, List, [], ◌∷◌, ◌++◌, length, take, slice_index, Bool, ◌==◌, nat_lt, nat_le, Option, Some, None, if◌then◌else◌, ◌⊎◌}
+use Rattle.std.specs.Prelude.{ℕ, ◌+◌, ◌≡◌, ◌≤◌, ◌<◌, ◌^◌, List, [], ◌∷◌, ◌++◌, length, take, slice_index, ◌==◌, nat_lt, Option, Some, None, if◌then◌else◌, ◌⊎◌}
 use Rattle.std.specs.List.{flat_map, AllByRecursion}
 use Rattle.byteorder.specs.Endian.{big_bytes, big_number}
 use Rattle.frame_codec.specs.Octets.{IsFrame}
 use Rattle.recorder.specs.declared.fault.RecordFault.{RecordFault}
-use Rattle.recorder.specs.declared.fault.RecordFault.TheVariants.{Cut, Kind, TooLong}
+use Rattle.recorder.specs.declared.fault.RecordFault.TheVariants.{Kind}
 use Rattle.recorder.specs.declared.events.ScriptEvent.{ScriptEvent}
 use Rattle.recorder.specs.declared.events.ScriptEvent.TheVariants.{Tick, File}
 use Rattle.recorder.specs.Fields.{judged}
+use Rattle.recorder.specs.Files.{end_mark, event_limit, is_signed, answer_by, fault_by}
 use Rattle.recorder.specs.Heads.{Heading, IsHeading, head_fault, head_text, script_magic}
-
--- the octet behind the last event of a file
-abbrev pub end_mark : ℕ
-end_mark = 255
-
--- how many events a file has at most
-abbrev pub event_limit : ℕ
-event_limit = 16777216
 
 -- the octets of an event: its kind, and its fields
 abbrev pub event_text : ScriptEvent → List ℕ
@@ -25,8 +18,7 @@ event_text (File caller number frame) = 2 ∷ caller ∷ (big_bytes 8 number ++ 
 
 -- the octets of what a reader answers: an event, or none at the end mark
 abbrev pub answer_text : Option ScriptEvent → List ℕ
-answer_text (Some e) = event_text e
-answer_text None = end_mark ∷ []
+answer_text = answer_by event_text
 
 -- the fields of a File are in their ranges
 pub record FileFits (h : Heading) (caller number : ℕ) (frame : List ℕ) : Type 0 where
@@ -39,9 +31,13 @@ abbrev pub EventFits : Heading → ScriptEvent → Type 0
 EventFits h Tick = Unit {0}
 EventFits h (File caller number frame) = FileFits h caller number frame
 
--- the first nibble of a frame is 13
-abbrev pub is_signed : List ℕ → Bool
-is_signed frame = slice_index frame 0 / 16 == 13
+-- a head with the most filers
+abbrev pub widest : Heading
+widest = record { filers = 64; g = 10; delay = 0 }
+
+-- the fields of an event are in their ranges, under some head, and so under the widest
+abbrev pub FitsSomeHead : ScriptEvent → Type 0
+FitsSomeHead e = EventFits widest e
 
 -- the first fault of the fields of a File, 42 octets at most, of which the first stands at place from
 abbrev pub file_fault : Heading → ℕ → List ℕ → Option RecordFault
@@ -50,15 +46,16 @@ file_fault h from fields =
     (judged fields from 1 8 (λ o. nat_lt (big_number 8 o) (2 ^ 47))
     (judged fields from 9 33 is_signed None))
 
+-- the fault of a kind that stands at place `at`, or of what follows it
+abbrev pub kind_fault : Heading → ℕ → ℕ → List ℕ → Option RecordFault
+kind_fault h kind at rest =
+    if kind == 1 then None
+    else if kind == 2 then file_fault h (at + 1) (take 42 rest)
+    else Some (Kind at)
+
 -- the fault that stands at place `at`, after so many events, where these octets are left
 abbrev pub fault_at : Heading → ℕ → ℕ → List ℕ → Option RecordFault
-fault_at h count at [] = Some (Cut at)
-fault_at h count at (kind ∷ fields) =
-    if kind == end_mark then None
-    else if nat_le event_limit count then Some TooLong
-    else if kind == 1 then None
-    else if kind == 2 then file_fault h (at + 1) (take 42 fields)
-    else Some (Kind at)
+fault_at h = fault_by (kind_fault h)
 
 -- the octets of a head and of events behind it
 abbrev pub script_text : Heading → List ScriptEvent → List ℕ

@@ -1,5 +1,6 @@
 // The events of the files.
 use frame_codec::Frame33;
+use play_machine::FileReply;
 
 /// An event of a script.
 #[derive(Debug, Drop)]
@@ -25,4 +26,42 @@ pub enum PlayEvent {
     Erasure,
     /// A tick that played this frame.
     Frame(Frame33),
+}
+
+/// What a filer said of its packet, and what was held then.
+#[derive(Clone, Copy, Debug, PartialEq, Eq)]
+pub struct Asked2 {
+    pub said: u32,
+    pub held: u32,
+}
+
+/// An event of a filer's journal. Each datagram gives `Source` and `Base` where those calls were made, and then one
+/// `File` for each frame, or one other event.
+#[derive(Clone, Copy, Debug, PartialEq, Eq)]
+pub enum FilerEvent {
+    /// The source (RTP's SSRC) of the first packet was said.
+    Source(Asked2),
+    /// The timestamp of the first packet was said, as the base of the numbers.
+    Base(Asked2),
+    /// A frame was filed under a number, with this reply.
+    File {
+        number: u64,
+        frame: Frame33,
+        reply: FileReply,
+    },
+    /// The datagram was refused by its octets: 1 to 10 are the refusals of RTP, 17 to 22 those of RTCP. `detail` is 0
+    /// where the refusal tells no number.
+    Refused {
+        code: u8,
+        detail: u16,
+    },
+    /// An RTCP datagram was read.
+    Rtcp,
+    /// The packet is of another source than the held one.
+    Stranger {
+        ssrc: u32,
+        held: u32,
+    },
+    /// The packet has no frame.
+    Empty,
 }

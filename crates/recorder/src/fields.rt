@@ -1,12 +1,13 @@
 // The fields of an event, judged from the left.
-ghost use Rattle.std.specs.Prelude.{◌≡◌, ◌≤◌, ◌<◌, ◌+◌, ◌^◌, ◌∷◌, length, None, Some, IfOk, MatchResult};
+ghost use Rattle.std.specs.Prelude.{◌≡◌, ◌≤◌, ◌<◌, ◌+◌, ◌^◌, ◌∷◌, length, None, Some, IfOk, MatchResult, true, false};
+ghost use Rattle.recorder.specs.Files.{is_signed};
 ghost use Rattle.recorder.specs.Script.{event_text, EventFits, file_fault};
 
 use crate::events::ScriptEvent;
 use crate::fault::RecordFault;
 use crate::heading::Head;
 use byteorder::{BigEndian, ByteOrder};
-use frame_codec::frame_of;
+use frame_codec::{Frame33, frame_of};
 
 // Numbers of frames are below this one.
 const NUMBERS: u64 = 1 << 47;
@@ -19,34 +20,52 @@ pub fn file_event(head: &Head, from: u64, fields: &[u8]) -> Result<ScriptEvent, 
     ensures fits { IfOk result (λ e. EventFits head.now e) }
     ensures fault { MatchResult result (λ e. file_fault head.now from fields.now ≡ None) (λ f. file_fault head.now from fields.now ≡ Some f) }
 {
-    let cut = RecordFault::Cut {
-        at: from + fields.len() as u64,
-    };
     if fields.is_empty() {
-        return Err(cut);
+        return Err(cut_behind(from, fields));
     }
     let caller = fields[0];
     if caller >= head.filers {
         return Err(RecordFault::Field { at: from });
     }
     if fields.len() < 9 {
-        return Err(cut);
+        return Err(cut_behind(from, fields));
     }
     let number = BigEndian::read_u64(&fields[1..9]);
     if number >= NUMBERS {
         return Err(RecordFault::Field { at: from + 1 });
     }
     if fields.len() < 42 {
-        return Err(cut);
+        return Err(cut_behind(from, fields));
     }
-    let mut octets = [0; 33];
-    octets.copy_from_slice(&fields[9..42]);
-    match frame_of(&octets) {
+    match frame_at(&fields[9..42], from + 9) {
         Ok(frame) => Ok(ScriptEvent::File {
             caller,
             number,
             frame,
         }),
-        Err(_) => Err(RecordFault::Field { at: from + 9 }),
+        Err(fault) => Err(fault),
+    }
+}
+
+/// Where the file is cut off that ends behind these fields.
+pub fn cut_behind(from: u64, fields: &[u8]) -> RecordFault
+    requires { from + length fields.now < 2 ^ 64 }
+    ensures { result ≡ RecordFault.Cut (from + length fields.now) }
+{
+    RecordFault::Cut {
+        at: from + fields.len() as u64,
+    }
+}
+
+/// The frame of these octets, of which the first stands at octet `at` of the file, or that field's fault.
+pub fn frame_at(octets: &[u8], at: u64) -> Result<Frame33, RecordFault>
+    requires { length octets.now ≡ 33 }
+    ensures frame { MatchResult result (λ f. (f ≡ octets.now) × (is_signed octets.now ≡ true)) (λ f. (f ≡ RecordFault.Field at) × (is_signed octets.now ≡ false)) }
+{
+    let mut whole = [0; 33];
+    whole.copy_from_slice(octets);
+    match frame_of(&whole) {
+        Ok(frame) => Ok(frame),
+        Err(_) => Err(RecordFault::Field { at }),
     }
 }

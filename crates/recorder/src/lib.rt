@@ -4,20 +4,28 @@
 mod events;
 mod fault;
 mod fields;
+mod filer_writer;
 mod heading;
 mod laws;
+mod play_read;
+mod play_reader;
 mod play_writer;
 mod read;
 mod reading;
+mod script_read;
 mod script_reader;
+mod script_writer;
 mod tally;
 
-pub use events::{PlayEvent, ScriptEvent};
+pub use events::{Asked2, FilerEvent, PlayEvent, ScriptEvent};
 pub use fault::{Ending, RecordEnd, RecordFault};
+pub use filer_writer::{write_filer, write_filer_head};
 pub use heading::Head;
 pub use laws::scripts_have_no_fault;
+pub use play_reader::PlayReader;
 pub use play_writer::{play_event_of, write_end, write_play, write_play_head};
 pub use script_reader::ScriptReader;
+pub use script_writer::{write_script, write_script_head};
 pub use tally::{PlayTally, Tally};
 
 #[cfg(test)]

@@ -4,7 +4,7 @@ ghost use Rattle.gate_base.specs.Faults.{HasCause};
 ghost use Rattle.gate_io.specs.Flow.{Gives};
 ghost use Rattle.recorder.specs.Heads.{head_text, play_magic};
 ghost use Rattle.recorder.specs.Play.{event_of_item, play_event_text};
-ghost use Rattle.recorder.specs.Script.{end_mark};
+ghost use Rattle.recorder.specs.Files.{end_mark};
 
 use crate::events::PlayEvent;
 use crate::heading::{Head, head_octets};

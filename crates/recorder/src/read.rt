@@ -1,14 +1,13 @@
-// Heads and events from a source, a whole group of fields at once.
-ghost use Rattle.std.specs.Prelude.{◌≡◌, ◌≤◌, ◌<◌, ◌+◌, ◌^◌, ◌∷◌, List, ℕ, take, None, Some, IfOk, IfSome, IsErrOf};
+// What each file has: a head, kinds, and the end mark.
+ghost use Rattle.std.specs.Prelude.{◌≡◌, ◌≢◌, ◌≤◌, ◌<◌, ◌∷◌, [], List, ℕ, Option, take, Some, None, IfOk, IfSome, IsErrOf};
 ghost use Rattle.std.specs.Io.KnownBytes.{Consumes};
 ghost use Rattle.gate_base.specs.Faults.{Rose};
+ghost use Rattle.recorder.specs.Files.{answer_by, end_mark, event_limit, fault_by};
 ghost use Rattle.recorder.specs.Heads.{IsHeading, head_fault, head_text};
-ghost use Rattle.recorder.specs.Reader.{Tells};
-ghost use Rattle.recorder.specs.Script.{EventFits, answer_text, event_limit, event_text, fault_at, file_fault};
+ghost use Rattle.recorder.specs.Reader.{Tells, TellsNoKind};
+ghost use Rattle.recorder.specs.declared.fault.RecordFault.{RecordFault};
 
-use crate::events::ScriptEvent;
 use crate::fault::{RecordEnd, RecordFault};
-use crate::fields::file_event;
 use crate::heading::{Head, head_of};
 use gate_io::{Failed, Source, fill};
 
@@ -34,36 +33,11 @@ pub fn read_head<I: Source>(magic: &[u8; 8], source: &mut I) -> Result<Head, Rec
     }
 }
 
-// Reads the fields of a File, of which the first stands at octet `from`.
-fn read_file<I: Source>(head: &Head, from: u64, source: &mut I) -> Result<ScriptEvent, RecordEnd>
-    requires { from + 42 < 2 ^ 64 }
-    ensures text { IfOk result (λ e. (fields : List ℕ) × (event_text e ≡ 2 ∷ fields) × Consumes (I.left source.old) (I.left source.new) fields) }
-    ensures fits { IfOk result (λ e. EventFits head.now e) }
-    ensures fault { IfSome (I.left source.old) (λ octets. Tells result (file_fault head.now from (take 42 octets))) }
-    ensures later { I.faults source.old ≤ I.faults source.new }
-    ensures failed { IsErrOf result RecordEnd.ReadFailed → Rose (I.faults source.old) (I.faults source.new) }
-{
-    let mut octets = [0; 42];
-    match fill(source, &mut octets) {
-        Err(Failed) => Err(RecordEnd::ReadFailed),
-        Ok(count) => match file_event(head, from, &octets[..count]) {
-            Ok(event) => Ok(event),
-            Err(fault) => Err(RecordEnd::Fault(fault)),
-        },
-    }
-}
-
-/// Reads an event, or the end mark. `count` events were read, and it begins at octet `at`.
-pub fn read_event<I: Source>(
-    head: &Head,
-    count: u32,
-    at: u64,
-    source: &mut I,
-) -> Result<Option<ScriptEvent>, RecordEnd>
-    requires { at + 4096 < 2 ^ 64 }
-    ensures text { IfOk result (λ o. Consumes (I.left source.old) (I.left source.new) (answer_text o)) }
-    ensures fits { IfOk result (λ o. IfSome o (λ e. EventFits head.now e × (count < event_limit))) }
-    ensures fault { IfSome (I.left source.old) (λ octets. Tells result (fault_at head.now count at octets)) }
+/// Reads the kind of an event, or the end mark. `count` events were read, and it stands at octet `at`.
+pub fn read_kind<I: Source>(count: u32, at: u64, source: &mut I) -> Result<Option<u8>, RecordEnd>
+    ensures text { IfOk result (λ o. Consumes (I.left source.old) (I.left source.new) (answer_by (λ kind. kind ∷ []) o)) }
+    ensures kind { IfOk result (λ o. IfSome o (λ kind. (kind ≢ end_mark) × (count < event_limit))) }
+    ensures fault { (behind : ℕ → ℕ → List ℕ → Option RecordFault) → IfSome (I.left source.old) (λ octets. TellsNoKind result (fault_by behind count at octets)) }
     ensures later { I.faults source.old ≤ I.faults source.new }
     ensures failed { IsErrOf result RecordEnd.ReadFailed → Rose (I.faults source.old) (I.faults source.new) }
 {
@@ -73,19 +47,11 @@ pub fn read_event<I: Source>(
         Ok(0) => return Err(RecordEnd::Fault(RecordFault::Cut { at })),
         Ok(_) => {}
     }
-    let kind = octets[0];
-    if kind == END_MARK {
+    if octets[0] == END_MARK {
         return Ok(None);
     }
     if count >= EVENT_LIMIT {
         return Err(RecordEnd::Fault(RecordFault::TooLong));
     }
-    match kind {
-        1 => Ok(Some(ScriptEvent::Tick)),
-        2 => match read_file(head, at + 1, source) {
-            Ok(event) => Ok(Some(event)),
-            Err(end) => Err(end),
-        },
-        _ => Err(RecordEnd::Fault(RecordFault::Kind { at })),
-    }
+    Ok(Some(octets[0]))
 }

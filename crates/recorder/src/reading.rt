@@ -3,8 +3,8 @@ ghost use Rattle.std.specs.Prelude.{◌≡◌, ◌≤◌, ◌<◌, ◌⊎◌, �
 ghost use Rattle.std.specs.Io.KnownBytes.{Consumes};
 ghost use Rattle.gate_base.specs.Faults.{Rose};
 ghost use Rattle.recorder.specs.Heads.{IsHeading, head_fault, head_text};
-ghost use Rattle.recorder.specs.Reader.{Tells, fresh, head_again, headed};
-ghost use Rattle.recorder.specs.Script.{event_limit};
+ghost use Rattle.recorder.specs.Reader.{Tells, again, fresh, head_again, headed};
+ghost use Rattle.recorder.specs.Files.{event_limit};
 
 use crate::fault::{Ending, RecordEnd};
 use crate::heading::Head;
@@ -24,7 +24,7 @@ pub struct Reading {
 impl Model for Reading {
     ghost use Rattle.std.specs.Prelude.{◌+◌, ◌*◌, ◌≤◌};
     ghost use Rattle.recorder.specs.Reader.{Progress};
-    ghost use Rattle.recorder.specs.Script.{event_limit};
+    ghost use Rattle.recorder.specs.Files.{event_limit};
 
     ghost Value = { Progress };
 
@@ -121,5 +121,15 @@ impl Reading {
         ensures { self.new ≡ record self.old { over = Some ending } }
     {
         self.over = Some(ending);
+    }
+}
+
+/// What a reader that is over answers.
+pub fn answer_again<T>(over: Ending) -> Result<Option<T>, RecordEnd>
+    ensures { result ≡ again over }
+{
+    match over {
+        Ending::Mark => Ok(None),
+        Ending::Refused(end) => Err(end),
     }
 }

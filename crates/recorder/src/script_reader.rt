@@ -4,13 +4,14 @@ ghost use Rattle.std.specs.Io.KnownBytes.{Consumes};
 ghost use Rattle.gate_base.specs.Faults.{Rose};
 ghost use Rattle.recorder.specs.Heads.{Heading, IsHeading, head_fault, head_text, script_magic};
 ghost use Rattle.recorder.specs.Reader.{Tells, again, fresh, head_again, headed, stepped};
-ghost use Rattle.recorder.specs.Script.{EventFits, answer_text, event_limit, event_text, fault_at};
+ghost use Rattle.recorder.specs.Files.{event_limit};
+ghost use Rattle.recorder.specs.Script.{EventFits, answer_text, event_text, fault_at};
 
 use crate::events::ScriptEvent;
 use crate::fault::{Ending, RecordEnd};
 use crate::heading::Head;
-use crate::read::read_event;
-use crate::reading::Reading;
+use crate::reading::{Reading, answer_again};
+use crate::script_read::read_event;
 use gate_io::Source;
 use std::marker::Model;
 
@@ -84,16 +85,6 @@ impl ScriptReader {
                 Err(end)
             }
         }
-    }
-}
-
-// What a reader that is over answers.
-fn answer_again(over: Ending) -> Result<Option<ScriptEvent>, RecordEnd>
-    ensures { result ≡ again over }
-{
-    match over {
-        Ending::Mark => Ok(None),
-        Ending::Refused(end) => Err(end),
     }
 }
 

@@ -4,6 +4,7 @@ use super::*;
 use frame_codec::{Item, frame_of};
 use gate_base::OutOfMemory;
 use gate_io::{MemorySink, MemorySource};
+use play_machine::FileReply;
 use std::alloc::Global;
 use std::test::Fail;
 
@@ -171,5 +172,151 @@ fn a_journal_of_each_event_has_its_octets(rt: HostRuntime) -> Result<(), Fail> {
         *b"GSMGPJ01\x40\x0A\x03\xFF\x10\x12\x13\xDE".as_slice()
     );
     assert_eq!(rt; given[47..], *b"\x55\x11\0\0\x03\xE8\xFF".as_slice());
+    Ok(())
+}
+
+// A head of one filer, 2^6 slots and delay 3, and an Idle, a Base, an Erasure, a Frame and the end mark: 54 octets.
+fn journal() -> [u8; 54] {
+    let mut octets = [0xDA; 54];
+    octets[..20].copy_from_slice(b"GSMGPJ01\x01\x06\x00\x03\x10\x11\0\0\x03\xE8\x12\x13");
+    octets[53] = 0xFF;
+    octets
+}
+
+// Whether the end mark comes behind four events.
+fn ends_played(source: &mut MemorySource) -> Result<bool, RecordEnd> {
+    let mut reader = PlayReader::new();
+    reader.head(source)?;
+    reader.next(source)?;
+    reader.next(source)?;
+    reader.next(source)?;
+    reader.next(source)?;
+    Ok(reader.next(source)?.is_none())
+}
+
+// The answer to these octets.
+fn played(alloc: Global, octets: &[u8]) -> Result<Result<bool, RecordEnd>, OutOfMemory> {
+    let mut source = MemorySource::new(alloc, octets, 5, &[])?;
+    Ok(ends_played(&mut source))
+}
+
+#[test]
+fn a_players_journal_is_read_and_each_cut_is_told(rt: HostRuntime) -> Result<(), Fail> {
+    let octets = journal();
+    assert_eq!(rt; played(rt.alloc(), &octets)?, Ok(true));
+    for n in 0..54 {
+        let fault = RecordFault::Cut { at: n as u64 };
+        assert_eq!(rt;
+            played(rt.alloc(), &octets[..n])?,
+            Err(RecordEnd::Fault(fault))
+        );
+    }
+    Ok(())
+}
+
+#[test]
+fn idle_and_base_out_of_order_are_unknown_kinds(rt: HostRuntime) -> Result<(), Fail> {
+    // Behind the head stand an Idle, a Base at 13, an Erasure at 18 and a Frame at 19.
+    let cases = [
+        (18, 0x10, RecordFault::Kind { at: 18 }),
+        (18, 0x11, RecordFault::Kind { at: 18 }),
+        (19, 0x11, RecordFault::Kind { at: 19 }),
+        (19, 0x10, RecordFault::Kind { at: 19 }),
+        (12, 0x09, RecordFault::Kind { at: 12 }),
+        (20, 0xC8, RecordFault::Field { at: 20 }),
+    ];
+    for (at, octet, fault) in cases {
+        let mut octets = journal();
+        assert!(rt; at < 54);
+        octets[at] = octet;
+        assert_eq!(rt; played(rt.alloc(), &octets)?, Err(RecordEnd::Fault(fault)));
+    }
+    Ok(())
+}
+
+#[test]
+fn a_filers_journal_has_its_octets(rt: HostRuntime) -> Result<(), Fail> {
+    let mut sink = MemorySink::new(rt.alloc(), 300, &[])?;
+    let head = Head {
+        filers: 1,
+        g: 6,
+        delay: 3,
+    };
+    assert_eq!(rt; write_filer_head(&head, 0, &mut sink), Ok(()));
+    let mut octets = [0x55; 33];
+    octets[0] = 0xDE;
+    let Ok(frame) = frame_of(&octets) else {
+        return Ok(());
+    };
+    let asked = Asked2 {
+        said: 1000,
+        held: 258,
+    };
+    let number = 4294967299;
+    let reply = FileReply::Accepted;
+    let late = FileReply::Late { ahead: 4294967300 };
+    let source = FilerEvent::Source(asked);
+    assert_eq!(rt; write_filer(&source, &mut sink), Ok(()));
+    let accepted = FilerEvent::File {
+        number,
+        frame,
+        reply,
+    };
+    assert_eq!(rt; write_filer(&accepted, &mut sink), Ok(()));
+    let passed = FilerEvent::File {
+        number,
+        frame,
+        reply: late,
+    };
+    assert_eq!(rt; write_filer(&passed, &mut sink), Ok(()));
+    let refused = FilerEvent::Refused {
+        code: 7,
+        detail: 13,
+    };
+    assert_eq!(rt; write_filer(&refused, &mut sink), Ok(()));
+    assert_eq!(rt; write_filer(&FilerEvent::Rtcp, &mut sink), Ok(()));
+    assert_eq!(rt; write_filer(&FilerEvent::Empty, &mut sink), Ok(()));
+    let given = sink.octets();
+    assert_eq!(rt; given.len(), 13 + 9 + 42 + 50 + 4 + 1 + 1);
+    assert_eq!(rt;
+        given[..22],
+        *b"GSMGFJ01\x01\x06\0\x03\0\x20\0\0\x03\xE8\0\0\x01\x02".as_slice()
+    );
+    assert_eq!(rt; given[22..32], *b"\x22\0\0\0\x01\0\0\0\x03\xDE".as_slice());
+    assert_eq!(rt; given[64..74], *b"\x24\0\0\0\x01\0\0\0\x03\xDE".as_slice());
+    assert_eq!(rt;
+        given[106..],
+        *b"\0\0\0\x01\0\0\0\x04\x26\x07\0\x0D\x27\x29".as_slice()
+    );
+    Ok(())
+}
+
+#[test]
+fn a_script_has_its_octets(rt: HostRuntime) -> Result<(), Fail> {
+    let mut sink = MemorySink::new(rt.alloc(), 100, &[])?;
+    let head = Head {
+        filers: 1,
+        g: 6,
+        delay: 3,
+    };
+    assert_eq!(rt; write_script_head(&head, &mut sink), Ok(()));
+    let Ok(frame) = frame_of(&[0xDA; 33]) else {
+        return Ok(());
+    };
+    let event = ScriptEvent::File {
+        caller: 0,
+        number: 4294967360,
+        frame,
+    };
+    assert_eq!(rt; write_script(&event, &mut sink), Ok(()));
+    assert_eq!(rt; write_script(&ScriptEvent::Tick, &mut sink), Ok(()));
+    let given = sink.octets();
+    assert_eq!(rt; given.len(), 56);
+    assert_eq!(rt;
+        given[..16],
+        *b"GSMGSC01\x01\x06\0\x03\x02\0\0\0".as_slice()
+    );
+    assert_eq!(rt; given[16..24], *b"\0\x01\0\0\0\x40\xDA\xDA".as_slice());
+    assert_eq!(rt; given[54..], *b"\xDA\x01".as_slice());
     Ok(())
 }

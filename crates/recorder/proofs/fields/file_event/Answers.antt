@@ -10,5 +10,5 @@ returns-in-Ok-clause-event c =
     let fields = c.args.fields.now in
     let spelled = file_spelled fields (omega arith) (λ i. omega (arith, c.type_inv.fields i)) in
     let number : c.read_u64-number.result ≡ big_number 8 (take 8 (drop 1 fields)) = c.read_u64-number.ensures in
-    let frame : c.in-Ok.frame ≡ take 33 (drop 9 fields) = c.in-Ok.ensures.signature.1 ∙ c.copy_from_slice.ensures.after in
+    let frame : c.in-Ok.frame ≡ take 33 (drop 9 fields) = c.in-Ok.ensures.frame.0 in
     ap (λ (n : ℕ). event_text (File (slice_index fields 0) n c.in-Ok.frame)) number ∙ ap (λ (f : List ℕ). event_text (File (slice_index fields 0) (big_number 8 (take 8 (drop 1 fields))) f)) frame ∙ spelled

@@ -1,7 +1,7 @@
 use Rattle.std.proofs.Common.{◌≡◌, ℕ, List, length, None, Some, arith}
 use Rattle.recorder.specs.Script.{file_fault}
 use Rattle.recorder.proofs.Taken.{told}
-use Rattle.recorder.proofs.read.read_file.Goals as goal
+use Rattle.recorder.proofs.script_read.read_file.Goals as goal
 
 pub returns-in-Ok-file_event-clause-fault : goal.returns-in-Ok-file_event-clause-fault
 returns-in-Ok-file_event-clause-fault g c =

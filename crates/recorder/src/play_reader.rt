@@ -1,0 +1,116 @@
+// The player's journal, event by event.
+ghost use Rattle.std.specs.Prelude.{◌≡◌, ◌≤◌, ◌<◌, ◌⊎◌, length, take, None, Some, IfOk, IfSome, IsSome, IsErrOf};
+ghost use Rattle.std.specs.Io.KnownBytes.{Consumes};
+ghost use Rattle.gate_base.specs.Faults.{Rose};
+ghost use Rattle.recorder.specs.Files.{event_limit};
+ghost use Rattle.recorder.specs.Heads.{IsHeading, head_fault, head_text, play_magic};
+ghost use Rattle.recorder.specs.Play.{PlayFits, may_open, play_answer_text, play_event_text, play_fault_at};
+ghost use Rattle.recorder.specs.Reader.{Tells, again, fresh_play, head_again, headed_play, stepped_play};
+
+use crate::events::PlayEvent;
+use crate::fault::{Ending, RecordEnd};
+use crate::heading::Head;
+use crate::play_read::read_play_event;
+use crate::reading::{Reading, answer_again};
+use gate_io::Source;
+use std::marker::Model;
+
+const MAGIC: &[u8; 8] = b"GSMGPJ01";
+
+/// Reads a player's journal from any source, event by event: Idle events, then at most one Base, then the others. It
+/// keeps where it is and how it ended.
+#[derive(Drop)]
+pub struct PlayReader {
+    reading: Reading,
+    opening: bool,
+}
+
+impl Model for PlayReader {
+    ghost use Rattle.recorder.specs.Reader.{PlayProgress};
+
+    ghost Value = { PlayProgress };
+
+    ghost view = { λ r. record { reading = r.reading; opening = r.opening } };
+}
+
+impl PlayReader {
+    /// A reader at the front of its source.
+    pub fn new() -> PlayReader
+        ensures { result ≡ fresh_play }
+    {
+        PlayReader {
+            reading: Reading::new(),
+            opening: true,
+        }
+    }
+
+    /// Reads the head. Once it is decided, the same is answered again and nothing is taken.
+    pub fn head<I: Source>(&mut self, source: &mut I) -> Result<Head, RecordEnd>
+        ensures again { IfSome (head_again self.old.reading.head self.old.reading.over) (λ a. (result ≡ a) × (self.new ≡ self.old) × (source.new ≡ source.old)) }
+        ensures text { self.old ≡ fresh_play → IfOk result (λ h. Consumes (I.left source.old) (I.left source.new) (head_text play_magic h)) }
+        ensures fits { self.old ≡ fresh_play → IfOk result (λ h. IsHeading h) }
+        ensures fault { self.old ≡ fresh_play → IfSome (I.left source.old) (λ octets. Tells result (head_fault play_magic (take 12 octets))) }
+        ensures state { self.old ≡ fresh_play → self.new ≡ headed_play result }
+        ensures later { I.faults source.old ≤ I.faults source.new }
+        ensures failed { IsErrOf result RecordEnd.ReadFailed → Rose (I.faults source.old) (I.faults source.new) ⊎ (self.old.reading.over ≡ Some (Ending.Refused RecordEnd.ReadFailed)) }
+    {
+        self.reading.head(MAGIC, source)
+    }
+
+    /// Reads the next event, or none at the end mark. An Idle or a Base out of order is an unknown kind. Once the
+    /// reader is over, the same is answered again and nothing is taken.
+    pub fn next<I: Source>(&mut self, source: &mut I) -> Result<Option<PlayEvent>, RecordEnd>
+        requires { IsSome self.old.reading.head }
+        ensures again { IfSome self.old.reading.over (λ e. (result ≡ again e) × (self.new ≡ self.old) × (source.new ≡ source.old)) }
+        ensures text { self.old.reading.over ≡ None → IfOk result (λ o. Consumes (I.left source.old) (I.left source.new) (play_answer_text o)) }
+        ensures fits { self.old.reading.over ≡ None → IfOk result (λ o. IfSome o (λ e. PlayFits self.old.opening e × (self.old.reading.count < event_limit))) }
+        ensures fault { self.old.reading.over ≡ None → IfSome (I.left source.old) (λ octets. Tells result (play_fault_at self.old.opening self.old.reading.count self.old.reading.at octets)) }
+        ensures state { self.old.reading.over ≡ None → self.new ≡ stepped_play self.old result }
+        ensures kept { self.new.reading.head ≡ self.old.reading.head }
+        ensures later { I.faults source.old ≤ I.faults source.new }
+        ensures failed { IsErrOf result RecordEnd.ReadFailed → Rose (I.faults source.old) (I.faults source.new) ⊎ (self.old.reading.over ≡ Some (Ending.Refused RecordEnd.ReadFailed)) }
+    {
+        if let Some(over) = self.reading.over() {
+            return answer_again(over);
+        }
+        match read_play_event(
+            self.opening,
+            self.reading.count(),
+            self.reading.at(),
+            source,
+        ) {
+            Ok(Some(event)) => {
+                self.reading.pass(size_of(&event));
+                self.opening = may_open(&event);
+                Ok(Some(event))
+            }
+            Ok(None) => {
+                self.reading.end(Ending::Mark);
+                Ok(None)
+            }
+            Err(end) => {
+                self.reading.end(Ending::Refused(end));
+                Err(end)
+            }
+        }
+    }
+}
+
+// Whether Idle and Base may come behind an event.
+fn may_open(event: &PlayEvent) -> bool
+    ensures { result ≡ may_open event.now }
+{
+    matches!(event, PlayEvent::Idle)
+}
+
+// How many octets an event has.
+fn size_of(event: &PlayEvent) -> u64
+    ensures value { result ≡ length (play_event_text event.now) }
+    ensures small { result ≤ 4096 }
+{
+    match event {
+        PlayEvent::Idle | PlayEvent::Erasure => 1,
+        PlayEvent::Base { .. } => 5,
+        PlayEvent::Frame(frame) => 1 + frame.octets().len() as u64,
+    }
+}
