@@ -4,3 +4,8 @@ pub mod Line
 pub mod Pairs
 pub mod Inside
 pub mod Plays
+pub mod Ring
+pub mod Steps
+pub mod Opening
+pub mod Core
+pub mod RingLaws
