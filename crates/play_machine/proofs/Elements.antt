@@ -1,7 +1,7 @@
 -- Lists by place: an element put, and a list made longer. Two numbers in one turn of the ring.
-use Rattle.std.proofs.Common.{◌≡◌, ◌≢◌, ◌⊎◌, inl, inr, ⊎_elim, ℕ, zero, suc, ◌+◌, ◌%◌, ◌<◌, ◌≤◌, List, [], ◌∷◌, ◌++◌, set, length, refl, sym, ap, arith}
+use Rattle.std.proofs.Common.{◌≡◌, ◌≢◌, ◌⊎◌, inl, inr, ⊎_elim, ℕ, zero, suc, ◌+◌, ◌%◌, ◌<◌, ◌≤◌, List, [], ◌∷◌, ◌++◌, set, length, get_or, refl, sym, ap, arith}
 use Rattle.std.proofs.lemmas.Bool.{cases_lt}
-use mathlib.Core.Option.{some, some-ne-none, some-injective}
+use mathlib.Core.Option.{some, none, some-ne-none, some-injective}
 use lib.ListN.{get_elem?}
 use Rattle.play_machine.proofs.Told.{turn_apart}
 
@@ -22,6 +22,16 @@ module _ {A : Type 0} where
   set_here [] i a below = absurd (omega arith)
   set_here (x ∷ l) zero a below = refl
   set_here (x ∷ l) (suc i) a below = set_here l i a (omega arith)
+
+  pub at_index : (l : List A) (i : ℕ) (a : A) → i < length l → a ≡ get_or l i a → get_elem? l i ≡ some a
+  at_index [] i a below is = absurd (omega arith)
+  at_index (x ∷ l) zero a below is = ap some (sym is)
+  at_index (x ∷ l) (suc i) a below is = at_index l i a (omega arith) is
+
+  pub beyond : (l : List A) (i : ℕ) → length l ≤ i → get_elem? l i ≡ none
+  beyond [] i over = refl
+  beyond (x ∷ l) zero over = absurd (omega arith)
+  beyond (x ∷ l) (suc i) over = beyond l i (omega arith)
 
   pub set_else : (l : List A) (i j : ℕ) (a : A) → j ≢ i → get_elem? (set l i a) j ≡ get_elem? l j
   set_else [] i j a other = refl

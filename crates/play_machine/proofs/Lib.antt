@@ -28,3 +28,5 @@ pub mod Gather
 pub mod Notes
 pub mod Base
 pub mod AllSteps
+pub mod Counted
+pub mod Stepped

@@ -1,5 +1,5 @@
 -- The core: events on the ring as plain data. An event that its seat's view does not allow changes nothing.
-use Rattle.std.specs.Prelude.{ℕ, ◌-◌, ◌%◌, ◌==◌, ◌&&◌, nat_lt, List, [], ◌∷◌, Option, Some, None, Bool, true, false, if◌then◌else◌, slice_get}
+use Rattle.std.specs.Prelude.{◌<◌, ◌^◌, ℕ, ◌-◌, ◌%◌, ◌==◌, ◌&&◌, nat_lt, List, [], ◌∷◌, Option, Some, None, Bool, true, false, if◌then◌else◌, slice_get}
 use mathlib.Core.Option as maybe
 use lib.ListN.{get_elem?}
 use Rattle.play_machine.specs.declared.call.Call.{Call}
@@ -37,6 +37,10 @@ abbrev pub no_lists : List (Option (List Call)) → Bool
 no_lists [] = true
 no_lists (None ∷ ls) = no_lists ls
 no_lists (Some l ∷ ls) = false
+
+abbrev pub has_right : Option Bool → Bool
+has_right None = false
+has_right (Some right) = right
 
 abbrev pub on_ground : Option Flight → Bool
 on_ground None = true
@@ -150,3 +154,8 @@ happens k s (Peek seat) = peek_role k s seat (role_at s seat)
 abbrev pub run : Shape → Ring → List CoreEvent → Ring
 run k s [] = s
 run k s (e ∷ es) = run k (happens k s e) es
+
+-- a number that is filed is below 2 ^ 47
+abbrev pub NumberFits : CoreEvent → Type 0
+NumberFits (Load seat number frame) = number < 2 ^ 47
+NumberFits _ = Unit {0}

@@ -2,7 +2,13 @@
 #![tactic(auto)]
 
 mod call;
+mod calling;
+mod core_events;
+mod core_state;
+mod core_steps;
+mod element;
 mod event;
+mod interleaving;
 mod laws;
 mod lists;
 mod map_filer;
@@ -16,8 +22,10 @@ mod views;
 mod words;
 
 pub use call::Call;
+pub use core_state::CoreState;
 pub use event::CoreEvent;
 pub use gate_base::OutOfMemory;
+pub use interleaving::core_run;
 pub use laws::{accepted_once, ahead_is_least, replies_are_one, ticks_play_accepted};
 pub use lists::{CallList, Gathered, PairList, Rights};
 pub use map_filer::MapFiler;
