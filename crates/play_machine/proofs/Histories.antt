@@ -8,6 +8,7 @@ use Rattle.play_machine.specs.declared.reply.FileReply.TheVariants.{Accepted}
 use Rattle.play_machine.specs.Machine.{Machine, Replies, after}
 use Rattle.play_machine.specs.History.{Entry, IsLegal, after_all, calls_of, calls, ticks, tick_weight, MayCall, AllMayCall}
 use Rattle.play_machine.specs.Plays.{WasAccepted}
+use Rattle.play_machine.specs.Ring.{AllAccepted}
 
 pub after_all-snoc : (m : Machine) (h : List Entry) (e : Entry) → after_all m (h ++ e ∷ []) ≡ after (after_all m h) e.call
 after_all-snoc m [] e = refl
@@ -54,6 +55,10 @@ accepted-longer n f (x ∷ h) e a = ⊎_elim (λ y. inl y) (λ y. inr (accepted-
 pub accepted-last : (n : ℕ) (f : List ℕ) (h : List Entry) (e : Entry) → e.call ≡ FileCall n f Accepted → WasAccepted n f (h ++ e ∷ [])
 accepted-last n f [] e a = inl a
 accepted-last n f (x ∷ h) e a = inr (accepted-last n f h e a)
+
+pub all_accepted-longer : (ps : List (ℕ × List ℕ)) (h : List Entry) (e : Entry) → AllAccepted ps h → AllAccepted ps (h ++ e ∷ [])
+all_accepted-longer [] h e a = tt
+all_accepted-longer (p ∷ ps) h e a = (accepted-longer p.0 p.1 h e a.0, all_accepted-longer ps h e a.1)
 
 -- every tick is the player's
 weight_by : (filers : ℕ) (x : Entry) → MayCall filers x.who x.call → x.who ≢ filers → tick_weight x.call ≡ 0

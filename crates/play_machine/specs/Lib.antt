@@ -5,3 +5,11 @@ pub mod Line
 pub mod Pairs
 pub mod Inside
 pub mod Plays
+pub mod Ring
+pub mod Steps
+pub mod Opening
+pub mod Core
+pub mod Found
+pub mod CoreState
+pub mod CoreInside
+pub mod RingLaws

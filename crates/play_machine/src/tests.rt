@@ -94,3 +94,68 @@ fn sides_share_a_line(rt: HostRuntime) -> Result<(), Fail> {
     assert_eq!(rt; line.tick(), Item::Erasure);
     Ok(())
 }
+
+// Two filers share a ring of four slots. The second finds the first one's frame there, which is played.
+#[test]
+fn an_interleaving_has_one_history(rt: HostRuntime) -> Result<(), Fail> {
+    let (z, w) = (frame_of(&Z)?, frame_of(&W)?);
+    let (number, next) = (START, START + 1);
+    let events = [
+        CoreEvent::Split { seat: 0, right: 0 },
+        CoreEvent::Split { seat: 0, right: 1 },
+        CoreEvent::Split { seat: 0, right: 2 },
+        CoreEvent::Enlist { seat: 1, berth: 0 },
+        CoreEvent::Enlist { seat: 2, berth: 1 },
+        CoreEvent::Enlist { seat: 3, berth: 2 },
+        CoreEvent::Load {
+            seat: 1,
+            number,
+            frame: z,
+        },
+        CoreEvent::Tick { seat: 1 },
+        CoreEvent::Publish { seat: 1 },
+        CoreEvent::Split { seat: 1, right: 0 },
+        CoreEvent::Learn { seat: 3, note: 4 },
+        CoreEvent::Load {
+            seat: 2,
+            number,
+            frame: w,
+        },
+        CoreEvent::Tick { seat: 3 },
+        CoreEvent::Load {
+            seat: 2,
+            number,
+            frame: w,
+        },
+        CoreEvent::Load {
+            seat: 2,
+            number: next,
+            frame: w,
+        },
+        CoreEvent::Publish { seat: 2 },
+        CoreEvent::Leave { seat: 1 },
+        CoreEvent::Gather { seat: 0, other: 1 },
+        CoreEvent::Gather { seat: 0, other: 1 },
+    ];
+    let events = events.to_vec(rt.alloc())?;
+    let state = core_run(rt.alloc(), 2, 2, &events)?;
+    let filed = |number, frame, reply| Call::FileCall {
+        number,
+        frame,
+        reply,
+    };
+    let first = [filed(number, z, FileReply::Accepted)];
+    let second = [
+        filed(number, w, FileReply::Duplicate),
+        filed(number, w, FileReply::Late { ahead: 4294967300 }),
+        filed(next, w, FileReply::Accepted),
+    ];
+    let played = [Call::TickCall {
+        item: Item::Frame(z),
+    }];
+    assert!(rt; state.calls(0) == first.as_slice());
+    assert!(rt; state.calls(1) == second.as_slice());
+    assert!(rt; state.calls(2) == played.as_slice());
+    assert!(rt; state.calls(3).is_empty());
+    Ok(())
+}

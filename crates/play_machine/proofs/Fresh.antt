@@ -1,0 +1,63 @@
+-- What is known to be accepted is there until its tick.
+use Rattle.std.proofs.Common.{◌≡◌, ⊎_elim, ℕ, ◌+◌, ◌%◌, ◌^◌, ◌<◌, ◌≤◌, List, [], ◌∷◌, Option, Some, None, Bool, true, false, refl, sym, ap, ◌∙◌, subst, arith, le_trans}
+use mathlib.Core.Option.{some}
+use lib.ListN.{get_elem?}
+use Rattle.std.specs.FinMap as map
+use Rattle.frame_codec.specs.declared.item.Item.TheVariants.{Frame}
+use Rattle.play_machine.specs.declared.views.Shape.{Shape}
+use Rattle.play_machine.specs.declared.views.Calling.{Calling}
+use Rattle.std.proofs.Math.Nat.{pow-le-pow_right}
+use Rattle.play_machine.specs.Machine.{start, Machine, opening_machine, item_of}
+use Rattle.play_machine.specs.History.{ticks, calls, Entry, after_all}
+use Rattle.play_machine.specs.Plays.{WasAccepted}
+use Rattle.play_machine.specs.declared.words.SlotWord.{SlotWord}
+use Rattle.play_machine.specs.declared.words.Cell.TheVariants.{AtHome}
+use Rattle.play_machine.specs.Ring.{Ring, RingRule, AllAccepted, Has, slot_count}
+use Rattle.play_machine.specs.Steps.{caller_view, position_of, taken}
+use Rattle.play_machine.proofs.Accepted.{accepted_there}
+use Rattle.play_machine.proofs.Tick.{here, said}
+
+accepted_from : (ps : List (ℕ × List ℕ)) (h : List Entry) (n : ℕ) (f : List ℕ) → AllAccepted ps h → Has ps n f → WasAccepted n f h
+accepted_from [] h n f all a = absurd a
+accepted_from (p ∷ ps) h n f all a = ⊎_elim (λ (e : (p.0 ≡ n) × (p.1 ≡ f)). subst (λ (q : ℕ × List ℕ). WasAccepted q.0 q.1 h) (λ i. (e.0 i, e.1 i)) all.0) (λ (b : Has ps n f). accepted_from ps h n f all.1 b) a
+
+-- a tick takes the frame that its caller knows to be accepted
+pub fresh_tick : (k : Shape) (s : Ring) (rule : RingRule k s) (id : ℕ) (c : Calling) (w : SlotWord) (y z : Option (List ℕ)) (at : get_elem? s.views id ≡ some (caller_view k c)) (player : c.who ≡ k.filers) (below : position_of c < 2 ^ 33)
+    (found : get_elem? s.slots (position_of c % slot_count k) ≡ some w) (holds : get_elem? s.cells w.cell ≡ some (AtHome y)) (f : List ℕ) → Has c.known.pairs (position_of c) f → taken w.filled y ≡ Frame f
+fresh_tick k s rule id c w y z at player below found holds f has =
+    let m : Machine = after_all opening_machine rule.history in
+    let e : position_of c ≡ m.position = here k s rule id c w y z at player below found holds in
+    let known = (rule.role id (caller_view k c) at).1 in
+    let got = accepted_there (slot_count k) opening_machine rule.history (position_of c) f rule.legal (omega arith) (accepted_from c.known.pairs rule.history (position_of c) f known.pairs has) in
+    said k s rule id c w y z at player below found holds ∙ ap item_of (ap (λ (q : ℕ). map.get m.frames q) (sym e) ∙ got)
+
+none_absurd : (f : List ℕ) → Path (Option (List ℕ)) None (Some f) → ⊥
+none_absurd f e = cc
+
+-- a word is at or above each position that is known
+pub fresh_word : (k : Shape) (s : Ring) (rule : RingRule k s) (id : ℕ) (c : Calling) (i : ℕ) (w : SlotWord) → get_elem? s.views id ≡ some (caller_view k c) → get_elem? s.slots i ≡ some w → c.known.position ≤ w.number
+fresh_word k s rule id c i w at found = le_trans (rule.role id (caller_view k c) at).1.position (rule.slot i w found).reached
+
+-- the word of a number that is known to be accepted is filled, or has gone on
+pub fresh_filled : (k : Shape) (s : Ring) (rule : RingRule k s) (id : ℕ) (c : Calling) (i n : ℕ) (w : SlotWord) (f : List ℕ) → get_elem? s.views id ≡ some (caller_view k c) → get_elem? s.slots i ≡ some w → Has c.known.pairs n f → w.number ≡ n → w.filled ≡ true
+fresh_filled k s rule id c i n w f at found has is = go w.filled refl
+  where
+    m : Machine
+    m = after_all opening_machine rule.history
+
+    there : map.get m.frames w.number ≡ Some f
+    there = accepted_there (slot_count k) opening_machine rule.history w.number f rule.legal (rule.slot i w found).reached (subst (λ (q : ℕ). WasAccepted q f rule.history) (sym is) (accepted_from c.known.pairs rule.history n f (rule.role id (caller_view k c) at).1.pairs has))
+
+    go : (b : Bool) → w.filled ≡ b → w.filled ≡ true
+    go true e = e
+    go false e = absurd (none_absurd f (sym ((rule.slot i w found).free e) ∙ there))
+
+-- what is published lies between the start and the last window
+pub published_within : (k : Shape) (s : Ring) (rule : RingRule k s) (i : ℕ) (w : SlotWord) → get_elem? s.slots i ≡ some w → (start ≤ w.number) × (w.number < 8589934592 + 1024)
+published_within k s rule i w found =
+    let m : ℕ = (after_all opening_machine rule.history).position in
+    let a : ℕ = w.number in let R : ℕ = 2 ^ k.g in
+    let fits = rule.slot i w found in let lo : m ≤ a = fits.reached in let hi : a < m + R = fits.near in
+    let p : m ≡ start + ticks (calls rule.history) = rule.position in let b : m ≤ 2 ^ 33 = rule.bound in
+    let small : R ≤ 2 ^ 10 = pow-le-pow_right {n = 2} (omega arith) rule.sized.g in
+    (omega arith, omega arith)
