@@ -13,7 +13,8 @@ use Rattle.recorder.specs.declared.fault.RecordFault.{RecordFault}
 use Rattle.recorder.specs.declared.tally.Tally.{Tally}
 use Rattle.recorder.specs.declared.tally.PlayTally.{PlayTally}
 use Rattle.recorder.specs.Heads.{head_fault, Heading, IsHeading, head_text, play_magic, script_magic}
-use Rattle.recorder.specs.Script.{IsScript, event_text, end_mark}
+use Rattle.recorder.specs.Files.{end_mark}
+use Rattle.recorder.specs.Script.{IsScript, event_text}
 use Rattle.recorder.proofs.Unique.{not_both}
 use Rattle.recorder.specs.Play.{call_text, play_front}
 use Rattle.gsmgate.specs.declared.run.Run.{Run}

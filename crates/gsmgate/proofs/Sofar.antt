@@ -17,7 +17,8 @@ use Rattle.recorder.specs.declared.events.ScriptEvent.{ScriptEvent}
 use Rattle.recorder.specs.declared.events.ScriptEvent.TheVariants.{Tick, File}
 use Rattle.recorder.specs.Heads.{Heading, head_text, script_magic}
 use Rattle.recorder.specs.Reader.{Progress, stepped}
-use Rattle.recorder.specs.Script.{EventFits, event_text, event_limit, fault_at, script_text}
+use Rattle.recorder.specs.Files.{event_limit}
+use Rattle.recorder.specs.Script.{EventFits, event_text, fault_at, script_text}
 use Rattle.recorder.specs.Play.{call_text}
 use Rattle.recorder.specs.Tallies.{call_items, call_replies, play_tally, reply_tally}
 use Rattle.gsmgate.specs.Applies.{Applies}

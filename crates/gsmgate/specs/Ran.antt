@@ -8,7 +8,8 @@ use Rattle.play_machine.specs.History.{Entry, IsLegal, calls, calls_of}
 use Rattle.recorder.specs.declared.events.ScriptEvent.{ScriptEvent}
 use Rattle.recorder.specs.Heads.{Heading, IsHeading}
 use Rattle.recorder.specs.Reader.{Progress, headed}
-use Rattle.recorder.specs.Script.{EventFits, event_limit, end_mark, event_text}
+use Rattle.recorder.specs.Files.{event_limit, end_mark}
+use Rattle.recorder.specs.Script.{EventFits, event_text}
 use Rattle.recorder.specs.Play.{call_text}
 use Rattle.recorder.specs.Tallies.{call_items, call_replies, no_plays, no_tally, play_tally, reply_tally}
 use Rattle.gsmgate.specs.Calls.{AreCalls}

@@ -7,7 +7,8 @@ use Rattle.play_machine.specs.History.{Entry, IsLegal, calls_of}
 use Rattle.recorder.specs.declared.fault.RecordFault.{RecordFault}
 use Rattle.recorder.specs.declared.events.ScriptEvent.{ScriptEvent}
 use Rattle.recorder.specs.Heads.{Heading, IsHeading, head_fault, script_magic}
-use Rattle.recorder.specs.Script.{EventFits, IsScript, event_limit, end_mark, script_text, fault_at}
+use Rattle.recorder.specs.Files.{event_limit, end_mark}
+use Rattle.recorder.specs.Script.{EventFits, IsScript, script_text, fault_at}
 use Rattle.recorder.specs.Play.{play_front, play_text}
 use Rattle.gsmgate.specs.Calls.{AreCalls}
 use Rattle.gsmgate.specs.Exchange.{Exchange, Gave, GavePart, Noted, NotedPart, NotedUnlessFault}
