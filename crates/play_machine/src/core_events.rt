@@ -1,5 +1,5 @@
 // What each event makes of the ring.
-ghost use Rattle.std.specs.Prelude.{◌≡◌, ◌≤◌, ◌≢◌, OnOk, slice_index_or, slice_set};
+ghost use Rattle.std.specs.Prelude.{◌≡◌, ◌≤◌, OnOk, slice_index_or, slice_set};
 ghost use Rattle.play_machine.specs.Steps.{spent_view};
 ghost use Rattle.play_machine.specs.Core.{base_role, enlist_role, gather_roles, happens, learn_roles, leave_role, load_role, peek_role, publish_role, role_at, source_role, split_role, tick_role};
 

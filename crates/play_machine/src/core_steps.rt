@@ -1,19 +1,16 @@
 // What each atomic step makes of the view of the seat that steps, and of the ring's words and cells.
-ghost use Rattle.std.specs.Prelude.{◌≡◌, ◌≤◌, ◌+◌, ◌^◌, ◌≢◌, ◌++◌, ℕ, IfOk, None, Some, slice_set};
+ghost use Rattle.std.specs.Prelude.{◌≡◌, ◌≤◌, ◌^◌, ◌≢◌, ℕ, IfOk, slice_set};
 ghost use Rattle.play_machine.specs.Ring.{Ring, slot_count, word_of};
-ghost use Rattle.play_machine.specs.Core.{base_role, enlist_role, gather_roles, kept_in, learn_roles, leave_role, load_role, peek_role, publish_role, source_role, split_role, tick_role};
-ghost use Rattle.play_machine.specs.Steps.{caller_view, only, pool_view, spent_view};
-ghost use Rattle.play_machine.specs.Opening.{all_rights};
-ghost use Rattle.play_machine.specs.CoreState.{IsFresh, Sees, list_of};
+ghost use Rattle.play_machine.specs.Core.{base_role, kept_in, learn_roles, leave_role, load_role, peek_role, publish_role, source_role, tick_role};
+ghost use Rattle.play_machine.specs.Steps.{caller_view, spent_view};
+ghost use Rattle.play_machine.specs.CoreState.{Sees};
 ghost use lib.ListN.{get_elem?};
 
 use crate::element::{found, put};
-use crate::lists::{Gathered, Rights};
-use crate::views::{Calling, Departing, Pooling, Role, Shape, View};
+use crate::views::{Calling, Departing, Role, Shape, View};
 use crate::words::{Berth, Cell, SlotWord};
 use frame_codec::Frame33;
 use gate_base::OutOfMemory;
-use std::alloc::Global;
 
 /// How many slots there are.
 pub fn slots_in(shape: Shape) -> u64
