@@ -1,9 +1,8 @@
 -- A step that changes nothing puts back the view that it took.
-use Rattle.std.proofs.Common.{◌≡◌, ◌≢◌, ℕ, zero, suc, List, [], ◌∷◌, ◌++◌, ◌+◌, ◌<◌, set, get_or, take, length, Option, Some, None, is_some, Bool, true, false, true≢false, cond, refl, sym, ap, ◌∙◌, subst, arith}
-use Rattle.std.specs.Prelude.{◌&&◌, slice_get}
+use Rattle.std.proofs.Common.{◌≡◌, ◌≢◌, ℕ, zero, suc, List, [], ◌∷◌, ◌++◌, ◌+◌, ◌<◌, set, get_or, take, length, Option, Some, None, is_some, Bool, true, false, true≢false, cond, refl, sym, ap, ◌∙◌, arith}
+use Rattle.std.specs.Prelude.{slice_get}
 use mathlib.Core.Option as maybe
 use lib.ListN.{get_elem?}
-use Rattle.play_machine.specs.declared.call.Call.{Call}
 use Rattle.play_machine.specs.declared.words.SlotWord.{SlotWord}
 use Rattle.play_machine.specs.declared.words.Berth.{Berth}
 use Rattle.play_machine.specs.declared.words.Berth.TheVariants.{Fresh, Out, Home}

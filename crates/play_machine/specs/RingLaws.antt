@@ -21,6 +21,7 @@ use Rattle.play_machine.specs.Ring.{Ring, RingRule, Has, slot_count, word_of}
 use Rattle.play_machine.specs.Steps.{caller_view, pool_view, note_view, gone_view, position_of, taken, free_word, tick_at, loaded, view_at, publish_at, split_at, note_at, enlist_at, leave_at, learn_at, gather_at, sourced, source_at, based, base_at, peeked}
 use Rattle.play_machine.specs.Opening.{opening_ring}
 use Rattle.play_machine.specs.Core.{held_in, run}
+use Rattle.play_machine.specs.CoreState.{IsListOf}
 
 -- the ring of this shape at the start meets the rule
 abbrev pub OpeningMeetsTheRule : Type 0
@@ -78,3 +79,7 @@ SlotsAreNear = (k : Shape) (s : Ring) → RingRule k s → (i : ℕ) (w : SlotWo
 -- a list that was gathered is its caller's in the history
 abbrev pub GatheredAreTheCalls : Type 0
 GatheredAreTheCalls = (k : Shape) (s : Ring) (rule : RingRule k s) (seat who : ℕ) (p : Pooling) (l : List Call) → Seated s seat (pool_view k p) → who ≤ k.filers → slice_get p.lists who ≡ Some (Some l) → l ≡ calls_of who rule.history
+
+-- a list that some view has for a caller, or none where no view has one, is that caller's in the history
+abbrev pub ListsAreTheCalls : Type 0
+ListsAreTheCalls = (k : Shape) (s : Ring) (rule : RingRule k s) (who : ℕ) (l : List Call) → who ≤ k.filers → IsListOf s who l → l ≡ calls_of who rule.history

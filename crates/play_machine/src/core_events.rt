@@ -1,14 +1,14 @@
 // What each event makes of the ring.
-ghost use Rattle.std.specs.Prelude.{◌≡◌, ◌≤◌, ◌≢◌, OnOk, slice_index_or, slice_set};
+ghost use Rattle.std.specs.Prelude.{◌≡◌, ◌≤◌, OnOk, slice_index_or, slice_set};
 ghost use Rattle.play_machine.specs.Steps.{spent_view};
 ghost use Rattle.play_machine.specs.Core.{base_role, enlist_role, gather_roles, happens, learn_roles, leave_role, load_role, peek_role, publish_role, role_at, source_role, split_role, tick_role};
 
 use crate::core_state::CoreState;
-use crate::core_steps;
 use crate::core_steps::spent_view;
 use crate::element::put;
 use crate::event::CoreEvent;
 use crate::views::{Shape, View};
+use crate::{core_steps, pool_steps};
 use frame_codec::Frame33;
 use gate_base::OutOfMemory;
 use std::alloc::Global;
@@ -32,7 +32,7 @@ impl CoreState {
         ensures { self.new ≡ enlist_role shape self.old seat who (role_at self.old seat) }
     {
         let view = take(&mut self.views, seat);
-        let next = core_steps::enlist(
+        let next = pool_steps::enlist(
             alloc,
             shape,
             seat,
@@ -99,7 +99,7 @@ impl CoreState {
         ensures { OnOk result (self.new ≡ split_role shape self.old seat right (role_at self.old seat)) }
     {
         let view = take(&mut self.views, seat);
-        let (next, new) = core_steps::split(alloc, shape, right, view)?;
+        let (next, new) = pool_steps::split(alloc, shape, right, view)?;
         put(&mut self.views, seat as usize, next);
         match new {
             Some(new) => self.views.push(new)?,
@@ -130,7 +130,7 @@ impl CoreState {
         }
         let view = take(&mut self.views, seat);
         let gone = take(&mut self.views, other);
-        let (next, rest) = core_steps::gather(shape, view, gone);
+        let (next, rest) = pool_steps::gather(shape, view, gone);
         put(&mut self.views, seat as usize, next);
         put(&mut self.views, other as usize, rest);
     }

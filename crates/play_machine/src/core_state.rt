@@ -5,7 +5,8 @@ ghost use Rattle.play_machine.specs.Opening.{berths_from, opening_ring, slots_fr
 ghost use Rattle.play_machine.specs.CoreState.{HasList, IsListOf};
 
 use crate::call::Call;
-use crate::core_steps::{pool_with, slots_in};
+use crate::core_steps::slots_in;
+use crate::pool_steps::pool_with;
 use crate::views::{Role, Shape, View};
 use crate::words::{Berth, Cell, SlotWord};
 use gate_base::OutOfMemory;

@@ -15,6 +15,7 @@ mod map_filer;
 mod map_line;
 mod map_player;
 mod pairs;
+mod pool_steps;
 mod reply;
 mod ring_laws;
 mod side;
@@ -33,8 +34,8 @@ pub use map_line::MapLine;
 pub use map_player::MapPlayer;
 pub use reply::FileReply;
 pub use ring_laws::{
-    callers_are_fresh, gathered_are_the_calls, opening_meets_the_rule, rule_holds, slots_are_near,
-    steps_keep_the_rule,
+    callers_are_fresh, gathered_are_the_calls, lists_are_the_calls, opening_meets_the_rule,
+    rule_holds, slots_are_near, steps_keep_the_rule,
 };
 pub use side::{FilerSide, PlayerSide};
 pub use views::{Calling, Departing, Flight, Known, Pooling, Role, Shape, View};

@@ -1,5 +1,5 @@
 // What holds of the ring, whoever steps next.
-ghost use Rattle.play_machine.specs.RingLaws.{AllStepsKeepTheRule, CallersAreFresh, GatheredAreTheCalls, OpeningMeetsTheRule, RuleHolds, SlotsAreNear};
+ghost use Rattle.play_machine.specs.RingLaws.{AllStepsKeepTheRule, CallersAreFresh, GatheredAreTheCalls, ListsAreTheCalls, OpeningMeetsTheRule, RuleHolds, SlotsAreNear};
 
 /// The ring at the start meets the rule, for every number of filers and of slots.
 pub fn opening_meets_the_rule()
@@ -29,4 +29,9 @@ pub fn slots_are_near()
 /// The lists that a pool has gathered are its callers' in the history.
 pub fn gathered_are_the_calls()
     ensures { GatheredAreTheCalls }
+{}
+
+/// A list of calls that a view has, or none where no view has one, is its caller's in the history.
+pub fn lists_are_the_calls()
+    ensures { ListsAreTheCalls }
 {}

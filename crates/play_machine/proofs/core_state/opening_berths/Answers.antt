@@ -1,7 +1,6 @@
-use Rattle.std.proofs.Common.{◌≡◌, ◌+◌, List, [], ◌∷◌, ◌++◌, ap, sym, ◌∙◌, arith}
+use Rattle.std.proofs.Common.{◌+◌, List, [], ◌∷◌, ◌++◌, ap, sym, ◌∙◌}
 use Rattle.play_machine.specs.declared.words.Berth.{Berth}
 use Rattle.play_machine.specs.declared.words.Berth.TheVariants.{Fresh}
-use Rattle.play_machine.specs.Opening.{berths_from}
 use Rattle.play_machine.proofs.Stepped.{berths_more}
 use Rattle.play_machine.proofs.core_state.opening_berths.Goals as goal
 

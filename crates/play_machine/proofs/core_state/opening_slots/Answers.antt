@@ -1,4 +1,4 @@
-use Rattle.std.proofs.Common.{◌≡◌, ◌+◌, List, [], ◌∷◌, ◌++◌, false, refl, ap, sym, ◌∙◌, arith}
+use Rattle.std.proofs.Common.{◌+◌, List, [], ◌∷◌, ◌++◌, false, refl, ap, sym, ◌∙◌}
 use Rattle.play_machine.specs.declared.words.SlotWord.{SlotWord}
 use Rattle.play_machine.proofs.Stepped.{slots_more}
 use Rattle.play_machine.proofs.core_state.opening_slots.Goals as goal

@@ -1,8 +1,8 @@
-use Rattle.std.proofs.Common.{◌≡◌, ap, sym, ◌∙◌, subst, take}
+use Rattle.std.proofs.Common.{ap, sym, ◌∙◌, subst, take}
 use Rattle.play_machine.specs.declared.views.Shape.{Shape}
 use Rattle.play_machine.specs.Ring.{Ring, RingRule}
 use Rattle.play_machine.specs.Opening.{opening_ring}
-use Rattle.play_machine.specs.Core.{happens, run}
+use Rattle.play_machine.specs.Core.{happens}
 use Rattle.play_machine.proofs.Stepped.{run_more}
 use Rattle.play_machine.proofs.Core.{core_keeps}
 use Rattle.play_machine.proofs.interleaving.core_run.Goals as goal

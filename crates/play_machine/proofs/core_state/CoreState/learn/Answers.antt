@@ -1,4 +1,4 @@
-use Rattle.std.proofs.Common.{◌≡◌, ◌≢◌, ◌∙◌, refl, sym}
+use Rattle.std.proofs.Common.{◌≢◌, sym}
 use Rattle.play_machine.specs.Ring.{Ring}
 use Rattle.play_machine.specs.Core.{learn_roles}
 use Rattle.play_machine.specs.CoreInside.{ring_of}

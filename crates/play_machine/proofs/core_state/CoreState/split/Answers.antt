@@ -1,4 +1,4 @@
-use Rattle.std.proofs.Common.{◌≡◌, ◌∙◌, ◌++◌, [], Option, Some, None, List, refl, sym, ap}
+use Rattle.std.proofs.Common.{◌≡◌, ◌∙◌, ◌++◌, Option, List, sym, ap}
 use Rattle.play_machine.specs.declared.views.View.{View}
 use Rattle.play_machine.specs.Ring.{Ring}
 use Rattle.play_machine.specs.Core.{split_role}

@@ -1,5 +1,5 @@
-use Rattle.std.proofs.Common.{◌≡◌, ◌+◌, ◌≤◌, length, take, ap, sym, ◌∙◌, arith, take_all}
-use Rattle.play_machine.specs.History.{ticks, tick_weight}
+use Rattle.std.proofs.Common.{ap, ◌∙◌, arith, take_all}
+use Rattle.play_machine.specs.History.{ticks}
 use Rattle.play_machine.proofs.Counted.{ticks_more}
 use Rattle.play_machine.proofs.lists.CallList.ticks.Goals as goal
 

@@ -1,4 +1,4 @@
-use Rattle.std.proofs.Common.{◌≡◌, ap, sym, ◌∙◌}
+use Rattle.std.proofs.Common.{ap, sym, ◌∙◌}
 use Rattle.play_machine.specs.Core.{no_lists}
 use Rattle.play_machine.proofs.Counted.{no_lists_more, listed}
 use Rattle.play_machine.proofs.lists.Gathered.is_empty.Goals as goal

@@ -1,8 +1,8 @@
-use Rattle.std.proofs.Common.{refl, sym, ◌∙◌}
+use Rattle.std.proofs.Common.{sym, ◌∙◌}
 use Rattle.play_machine.specs.declared.views.Role.TheVariants.{Caller, Pool}
 use Rattle.play_machine.specs.Core.{split_role}
 use Rattle.play_machine.proofs.Stepped.{kept_short, split_no_right, split_flying, noted}
-use Rattle.play_machine.proofs.core_steps.split.Goals as goal
+use Rattle.play_machine.proofs.pool_steps.split.Goals as goal
 
 pub returns-then-not-has : goal.returns-then-not-has
 returns-then-not-has c = λ s seat sees.

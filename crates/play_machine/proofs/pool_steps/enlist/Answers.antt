@@ -6,7 +6,7 @@ use Rattle.play_machine.specs.declared.words.Berth.TheVariants.{Fresh}
 use Rattle.play_machine.specs.declared.views.Role.TheVariants.{Pool}
 use Rattle.play_machine.specs.Core.{enlist_role}
 use Rattle.play_machine.proofs.Stepped.{kept, enlist_listed, enlist_no_right, enlist_not_fresh}
-use Rattle.play_machine.proofs.core_steps.enlist.Goals as goal
+use Rattle.play_machine.proofs.pool_steps.enlist.Goals as goal
 
 pub returns-then-not-is_empty : goal.returns-then-not-is_empty
 returns-then-not-is_empty c = λ s berths cells sees.
