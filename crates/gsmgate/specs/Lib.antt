@@ -1,4 +1,3 @@
-pub mod Words
 pub mod Places
 pub mod Calls
 pub mod Notes
@@ -9,4 +8,5 @@ pub mod Ran
 pub mod Pcm
 pub mod Decode
 pub mod DecodeRuns
+pub mod Render
 pub mod Commands

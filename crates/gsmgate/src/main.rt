@@ -6,11 +6,11 @@ mod notes;
 mod offline;
 mod outside;
 mod places;
+mod render;
 mod run;
 mod simulate;
 mod status;
 mod stop;
-mod words;
 
 use crate::offline::run_offline;
 use crate::outside::{OsSink, OsSource};

@@ -5,14 +5,15 @@ ghost use Rattle.gate_base.specs.Faults.{Rose};
 ghost use Rattle.gsmgate.specs.Exchange.{Exchange, GainedUnlessFault};
 ghost use Rattle.gsmgate.specs.Notes.{usage_line};
 ghost use Rattle.gsmgate.specs.Commands.{CompletesAs, EndsAs};
-ghost use Rattle.gsmgate.specs.Words.{command_of, fits};
-ghost use Rattle.gsmgate.specs.declared.words.Command.{Command};
+ghost use Rattle.command_line.specs.Lines.{Said, fits, line_of};
+ghost use Rattle.command_line.specs.declared.line.Command.{Command};
 
 use crate::decode::decode;
 use crate::notes::give_usage;
+use crate::render::render;
 use crate::simulate::simulate;
 use crate::status::Status;
-use crate::words::{Command, command_of};
+use command_line::{Command, line_of};
 use gate_io::{Failed, Sink, Source};
 use std::alloc::Global;
 
@@ -30,7 +31,7 @@ pub fn run_offline<I: Source, O: Sink, E: Sink>(
     ensures usage { (result ≡ Status.Usage) ↔ (fits (map string_bytes words.now.items) (length inputs.old.items) ≡ false) }
     ensures untouched { result ≡ Status.Usage → (inputs.new.items ≡ inputs.old.items) × (output.new ≡ output.old)
         × GainedUnlessFault (E.given notes.old) (E.given notes.new) (E.faults notes.old) (E.faults notes.new) usage_line }
-    ensures ran { (command : Command) → command_of (map string_bytes words.now.items) ≡ Some command → (result ≡ Status.Usage → ⊥)
+    ensures ran { (said : Said) → line_of (map string_bytes words.now.items) ≡ Some said → (result ≡ Status.Usage → ⊥)
         → (before now : I) × (inputs.old.items ≡ before ∷ []) × (inputs.new.items ≡ now ∷ [])
         × (let x : Exchange = record {
           input = I.left before;
@@ -40,16 +41,16 @@ pub fn run_offline<I: Source, O: Sink, E: Sink>(
           notes_now = E.given notes.new;
           noted = E.faults notes.old;
           noted_now = E.faults notes.new;
-        } in EndsAs command result x)
+        } in EndsAs said.command result x)
         × (result ≡ Status.ReadFault → Rose (I.faults before) (I.faults now))
-        × CompletesAs command result (I.left before) (Rose (I.faults before) (I.faults now) ⊎ Rose (O.faults output.old) (O.faults output.new) ⊎ Rose (E.faults notes.old) (E.faults notes.new)) }
+        × CompletesAs said.command result (I.left before) (Rose (I.faults before) (I.faults now) ⊎ Rose (O.faults output.old) (O.faults output.new) ⊎ Rose (E.faults notes.old) (E.faults notes.new)) }
     ensures write { result ≡ Status.WriteFault → Rose (O.faults output.old) (O.faults output.new) ⊎ Rose (E.faults notes.old) (E.faults notes.new) }
     ensures later { (O.faults output.old ≤ O.faults output.new) × (E.faults notes.old ≤ E.faults notes.new) }
     ensures kin { O.kin output.old output.new × E.kin notes.old notes.new }
 {
-    match command_of(words) {
-        Some(command) => match inputs.as_mut_slice() {
-            [input] => run_command(alloc, command, input, output, notes),
+    match line_of(words) {
+        Some(line) => match inputs.as_mut_slice() {
+            [input] => run_command(alloc, line.command, input, output, notes),
             _ => refuse_words(notes),
         },
         None => refuse_words(notes),
@@ -81,8 +82,9 @@ fn run_command<I: Source, O: Sink, E: Sink>(
     ensures kin { O.kin output.old output.new × E.kin notes.old notes.new }
 {
     match command {
-        Command::Simulate => simulate(alloc, input, output, notes),
+        Command::Simulate { voice } => simulate(alloc, voice, input, output, notes),
         Command::Decode => decode(input, output, notes),
+        Command::Render { seed } => render(seed, input, output, notes),
     }
 }
 

@@ -1,11 +1,11 @@
 // Where the objects of a line are.
-ghost use Rattle.std.specs.Prelude.{◌≡◌, ◌↔◌, ◌⊎◌, ◌∷◌, [], None, IsSome, IfOk, IfErr, IsErrOf, map};
+ghost use Rattle.std.specs.Prelude.{◌≡◌, ◌↔◌, ◌⊎◌, None, IsSome, IfOk, IfErr, IfSome, IsErrOf, map};
 ghost use Rattle.std.specs.String.{string_bytes};
-ghost use Rattle.gsmgate.specs.Places.{ArePlaces, ArePlacesOf};
-ghost use Rattle.gsmgate.specs.Words.{command_of};
+ghost use Rattle.command_line.specs.Lines.{line_of};
+ghost use Rattle.gsmgate.specs.Places.{ArePlaces};
 
 use crate::status::Status;
-use crate::words::command_of;
+use command_line::{Line, line_of};
 use std::alloc::{AllocError, Global};
 
 /// The places that a line of the program names, and the number of its ticks. What the command does not have is
@@ -32,22 +32,25 @@ pub struct Places {
     pub ticks: u64,
 }
 
-fn one(alloc: Global, word: &str) -> Result<Vec<String>, AllocError>
-    ensures { IfOk result (λ v. map string_bytes v.items ≡ word.now ∷ []) }
+// The words, in their order.
+fn copies(alloc: Global, words: &[String]) -> Result<Vec<String>, AllocError>
+    ensures { IfOk result (λ v. map string_bytes v.items ≡ map string_bytes words.now) }
 {
-    let mut words = Vec::new(alloc);
-    words.push(String::from_str(alloc, word)?)?;
-    Ok(words)
+    let mut texts = Vec::new(alloc);
+    for word in words {
+        texts.push(String::from_str(alloc, word.as_str())?)?;
+    }
+    Ok(texts)
 }
 
-// The places of a command that reads one file and writes one.
-fn places_of(alloc: Global, input: &str, output: &str) -> Result<Places, AllocError>
-    ensures { IfOk result (ArePlaces input.now output.now) }
+// The places of a command over files.
+fn places_of(alloc: Global, line: &Line<'_>) -> Result<Places, AllocError>
+    ensures { IfOk result (ArePlaces line.now) }
 {
     Ok(Places {
         serve: false,
-        inputs: one(alloc, input)?,
-        output: String::from_str(alloc, output)?,
+        inputs: copies(alloc, line.inputs)?,
+        output: String::from_str(alloc, line.output)?,
         links: Vec::new(alloc),
         reply: String::new(alloc),
         microphone: String::new(alloc),
@@ -59,18 +62,16 @@ fn places_of(alloc: Global, input: &str, output: &str) -> Result<Places, AllocEr
 
 /// The places that the words name: `Usage` exactly where they are no line of the program.
 pub fn addresses(alloc: Global, words: &Vec<String>) -> Result<Places, Status>
-    ensures ok { IfOk result (ArePlacesOf (map string_bytes words.now.items)) }
-    ensures line { IfOk result (λ p. IsSome (command_of (map string_bytes words.now.items))) }
-    ensures usage { IsErrOf result Status.Usage ↔ (command_of (map string_bytes words.now.items) ≡ None) }
+    ensures ok { IfOk result (λ p. IfSome (line_of (map string_bytes words.now.items)) (λ said. ArePlaces said p)) }
+    ensures line { IfOk result (λ p. IsSome (line_of (map string_bytes words.now.items))) }
+    ensures usage { IsErrOf result Status.Usage ↔ (line_of (map string_bytes words.now.items) ≡ None) }
     ensures only { IfErr result (λ e. (e ≡ Status.Usage) ⊎ (e ≡ Status.OutOfMemory)) }
 {
-    match (command_of(words), words.as_slice()) {
-        (Some(_), [_, input, output]) => {
-            match places_of(alloc, input.as_str(), output.as_str()) {
-                Ok(places) => Ok(places),
-                Err(_) => Err(Status::OutOfMemory),
-            }
-        }
-        _ => Err(Status::Usage),
+    match line_of(words) {
+        Some(line) => match places_of(alloc, &line) {
+            Ok(places) => Ok(places),
+            Err(_) => Err(Status::OutOfMemory),
+        },
+        None => Err(Status::Usage),
     }
 }

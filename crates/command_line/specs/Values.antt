@@ -1,0 +1,23 @@
+-- The values of a command line.
+use Rattle.std.specs.Prelude.{ℕ, ◌&&◌, Bool, List, length, Option, Some, None, Result, Ok, Err, if◌then◌else◌, nat_le, nat_lt}
+use Rattle.std.specs.List.{list_all}
+use Rattle.std.specs.Char.{digit_value}
+use Rattle.std.specs.Str.Parse.{digits_value}
+use Rattle.hex.specs.Hex.{decode_sized}
+
+-- one decimal digit or more, and nothing else
+abbrev pub is_number : List ℕ → Bool
+is_number digits = nat_lt 0 (length digits) && list_all (λ d. nat_lt (digit_value d) 10) digits
+
+-- the number that is written, where it is in the range
+abbrev pub number_in : ℕ → ℕ → List ℕ → Option ℕ
+number_in low high digits =
+    if is_number digits && (nat_le low (digits_value 10 digits) && nat_le (digits_value 10 digits) high) then Some (digits_value 10 digits) else None
+
+abbrev pub read_well : {A E : Type 0} → Result A E → Option A
+read_well (Ok x) = Some x
+read_well (Err e) = None
+
+-- the 32 octets that 64 hexadecimal digits write
+abbrev pub seed_of : List ℕ → Option (List ℕ)
+seed_of text = read_well (decode_sized text 32)

@@ -1,0 +1,123 @@
+// A player's journal becomes the speech that it played.
+ghost use Rattle.std.specs.Prelude.{◌≡◌, ◌≤◌, ◌++◌, List, ℕ, ℤ};
+ghost use Rattle.std.specs.List.{flat_map};
+ghost use Rattle.gate_base.specs.Faults.{HasCause, Rose};
+ghost use Rattle.gate_io.specs.Flow.{Gives};
+ghost use Rattle.frame_codec.specs.declared.item.Item.{Item};
+ghost use Rattle.recorder.specs.Heads.{Heading, IsHeading};
+ghost use Rattle.recorder.specs.Journals.{PlayerRecord};
+ghost use Rattle.recorder.specs.Play.{play_event_text};
+ghost use Rattle.recorder.specs.Reader.{headed_play};
+ghost use Rattle.recorder.specs.Tallies.{play_tally};
+ghost use Rattle.substitution.specs.Heard.{Voices, sample_octets};
+ghost use Rattle.replay_check.specs.Render.{Completes, Played, Renders, event_items};
+
+use byteorder::{ByteOrder, LittleEndian};
+use frame_codec::Item;
+use gate_io::{Failed, Sink, Source};
+use recorder::{Head, PlayEvent, PlayReader, PlayTally, RecordEnd, RecordFault};
+use substitution::Voice;
+
+/// How a journal was played.
+#[derive(Clone, Copy, Debug, PartialEq, Eq)]
+pub enum RenderEnd {
+    /// It was played to its end mark, and this was played.
+    Done(PlayTally),
+    /// The journal has this first fault.
+    Refused(RecordFault),
+    /// The journal could not be read.
+    ReadFault,
+    /// The speech could not be written.
+    WriteFault,
+}
+
+// Plays an item: 160 samples at 8 kHz become 320 octets, the low octet of each first, in one give.
+fn give_speech<O: Sink>(voice: &mut Voice, item: Item, pcm: &mut O) -> Result<(), Failed>
+    ensures played { (speech : List ℤ)
+        × ((seed : List ℕ) (items : List Item) (samples : List ℤ) → Voices seed items samples voice.old → Voices seed (items ++ item ∷ []) (samples ++ speech) voice.new)
+        × Gives (O.given pcm.old) (O.given pcm.new) result (sample_octets speech) }
+    ensures cause { HasCause (O.faults pcm.old) (O.faults pcm.new) result }
+    ensures kin { O.kin pcm.old pcm.new }
+{
+    let mut samples = [0; 160];
+    voice.play(item, &mut samples);
+    let mut octets = [0; 320];
+    LittleEndian::write_i16_into(&samples, &mut octets);
+    pcm.give(&octets)
+}
+
+// What an event plays.
+fn item_of(event: &PlayEvent) -> Option<Item>
+    ensures { event_items event.now ≡ option_to_list result }
+{
+    match event {
+        PlayEvent::Idle => Some(Item::Idle),
+        PlayEvent::Base { .. } => None,
+        PlayEvent::Erasure => Some(Item::Erasure),
+        PlayEvent::Frame(frame) => Some(Item::Frame(*frame)),
+    }
+}
+
+// Plays and counts what an event plays.
+fn play_event<O: Sink>(event: &PlayEvent, voice: &mut Voice, tally: &mut PlayTally, pcm: &mut O) -> Result<(), Failed>
+    ensures played { (speech : List ℤ)
+        × ((seed : List ℕ) (items : List Item) (samples : List ℤ) → Voices seed items samples voice.old → Voices seed (items ++ event_items event.now) (samples ++ speech) voice.new)
+        × Gives (O.given pcm.old) (O.given pcm.new) result (sample_octets speech) }
+    ensures counted { (items : List Item) → tally.old ≡ play_tally items → tally.new ≡ play_tally (items ++ event_items event.now) }
+    ensures cause { HasCause (O.faults pcm.old) (O.faults pcm.new) result }
+    ensures kin { O.kin pcm.old pcm.new }
+{
+    match item_of(event) {
+        Some(item) => {
+            tally.item(&item);
+            give_speech(voice, item, pcm)
+        }
+        None => Ok(()),
+    }
+}
+
+// Plays the events behind the head.
+fn play_events<I: Source, O: Sink>(head: &Head, seed: [u8; 32], reader: &mut PlayReader, journal: &mut I, pcm: &mut O) -> RenderEnd
+    requires heading { IsHeading head.now }
+    requires read { reader.old ≡ headed_play (Ok head.now) }
+    ensures played { (j : PlayerRecord) × (samples : List ℤ) × (j.head ≡ head.now) × Played seed (flat_map play_event_text j.events) result (I.left journal.old) (O.given pcm.old) (O.given pcm.new) j samples }
+    ensures later { (I.faults journal.old ≤ I.faults journal.new) × (O.faults pcm.old ≤ O.faults pcm.new) }
+    ensures read { result ≡ RenderEnd.ReadFault → Rose (I.faults journal.old) (I.faults journal.new) }
+    ensures write { result ≡ RenderEnd.WriteFault → Rose (O.faults pcm.old) (O.faults pcm.new) }
+    ensures kin { O.kin pcm.old pcm.new }
+{
+    let _ = head;
+    let mut voice = Voice::new(seed);
+    let mut tally = PlayTally::new();
+    'events: loop {
+        match reader.next(journal) {
+            Ok(Some(event)) => match play_event(&event, &mut voice, &mut tally, pcm) {
+                Ok(()) => {}
+                Err(Failed) => return RenderEnd::WriteFault,
+            },
+            Ok(None) => return RenderEnd::Done(tally),
+            Err(RecordEnd::Fault(fault)) => return RenderEnd::Refused(fault),
+            Err(RecordEnd::ReadFailed) => return RenderEnd::ReadFault,
+        }
+    }
+}
+
+/// Plays a player's journal by a voice of this seed: the speech is 320 octets for each beat of 20 ms, which are 160
+/// samples of 16 bits at 8 kHz, the low octet first. An Idle is silent, and a Base plays nothing.
+///
+/// It takes no memory. A fault ends it there, and what was given stays.
+pub fn render<I: Source, O: Sink>(seed: [u8; 32], journal: &mut I, pcm: &mut O) -> RenderEnd
+    ensures renders { Renders seed result (I.left journal.old) (O.given pcm.old) (O.given pcm.new) }
+    ensures later { (I.faults journal.old ≤ I.faults journal.new) × (O.faults pcm.old ≤ O.faults pcm.new) }
+    ensures read { result ≡ RenderEnd.ReadFault → Rose (I.faults journal.old) (I.faults journal.new) }
+    ensures write { result ≡ RenderEnd.WriteFault → Rose (O.faults pcm.old) (O.faults pcm.new) }
+    ensures complete { Completes result (I.left journal.old) }
+    ensures kin { O.kin pcm.old pcm.new }
+{
+    let mut reader = PlayReader::new();
+    match reader.head(journal) {
+        Ok(head) => play_events(&head, seed, &mut reader, journal, pcm),
+        Err(RecordEnd::Fault(fault)) => RenderEnd::Refused(fault),
+        Err(RecordEnd::ReadFailed) => RenderEnd::ReadFault,
+    }
+}
