@@ -1,5 +1,5 @@
 -- The stages of the analysis lattice, from the lowest up.
-use Rattle.std.proofs.Common.{◌≡◌, ◌≢◌, ℕ, zero, suc, ◌+◌, ◌<◌, ◌≤◌, ℤ, pos, List, length, length-set, set, refl, ◌∙◌, ap, arith, get_or-set_same, get_or-set_other, inl, inr}
+use Rattle.std.proofs.Common.{◌≡◌, ◌≢◌, ℕ, zero, suc, ◌+◌, ◌<◌, ◌≤◌, ℤ, List, length, length-set, set, refl, ◌∙◌, arith, get_or-set_same, get_or-set_other, inl, inr}
 use Rattle.std.proofs.lemmas.Bool.{cases_lt}
 use Rattle.fixed_arith.specs.Word.{add_words, mult_r_words}
 use Rattle.fixed_arith.specs.Signal.{at}

@@ -1,12 +1,12 @@
 -- How far a frame is scaled, and what is left of a sample.
-use Rattle.std.proofs.Common.{◌≡◌, ℕ, zero, suc, ◌+◌, ◌-◌, ◌*◌, ◌/◌, ◌^◌, ◌<◌, ◌≤◌, ℤ, pos, negsuc, ◌+ℤ◌, ◌*ℤ◌, ◌≤ℤ◌, List, refl, ap, ◌∙◌, arith, FitsSigned, w16, w32}
+use Rattle.std.proofs.Common.{◌≡◌, ℕ, zero, suc, ◌+◌, ◌-◌, ◌*◌, ◌^◌, ◌<◌, ◌≤◌, ℤ, pos, negsuc, ◌+ℤ◌, ◌*ℤ◌, ◌≤ℤ◌, List, refl, ap, ◌∙◌, arith, FitsSigned, w32}
 use Rattle.std.specs.Prelude.{unsigned_abs}
 use Rattle.std.specs.Int.{int_shr}
 use Rattle.std.proofs.lemmas.Int.{ints, unsigned_abs-mul, fits_signed_from_abs}
 use Rattle.std.proofs.Math.Nat.{pow-le-pow_right, mul-le-mul_left, mul-le-mul}
 use Rattle.fixed_arith.specs.Word.{clip_word, mult_r_words}
 use Rattle.fixed_arith.specs.Sums.{sum_below}
-use Rattle.fixed_arith.proofs.SumLaws.{sum_abs_le, sum_more, energy, lagged_le, sum_squares, sum_same}
+use Rattle.fixed_arith.proofs.SumLaws.{sum_abs_le, energy, lagged_le, sum_squares, sum_same}
 use Rattle.fixed_arith.specs.Signal.{at}
 use Rattle.lar_filter.specs.Autocorrelation.{scaled_word, correlation}
 

@@ -1,15 +1,12 @@
 -- The turns, as they are computed in place.
-use Rattle.std.proofs.Common.{◌≡◌, ◌≢◌, ℕ, zero, suc, ◌+◌, ◌-◌, ◌*◌, ◌%◌, ◌/◌, ◌^◌, ◌<◌, ◌≤◌, ℤ, pos, negsuc, ◌*ℤ◌, ◌≤ℤ◌, Bool, true, false, List, [], ◌∷◌, ◌++◌, take, drop, replicate, length, length-set, length-drop, set, refl, ◌∙◌, ap, sym, arith, take-append-drop, get_or-set_same, get_or-set_other, inl, inr, FitsSigned, w16, w32, to_z, of_z, append_assoc, append-nil}
-use Rattle.std.specs.Prelude.{unsigned_abs, int_lt, neg_ℤ, ◌-ℤ◌}
-use Rattle.std.specs.Int.{int_shr}
+use Rattle.std.proofs.Common.{◌≡◌, ◌≢◌, ℕ, zero, suc, ◌+◌, ◌-◌, ◌<◌, ◌≤◌, ℤ, pos, negsuc, true, false, List, [], ◌∷◌, ◌++◌, take, drop, replicate, length, length-set, length-drop, set, refl, ◌∙◌, ap, sym, arith, take-append-drop, get_or-set_same, get_or-set_other, inl, inr, append_assoc, append-nil}
+use Rattle.std.specs.Prelude.{int_lt, neg_ℤ, ◌-ℤ◌}
 use Rattle.std.proofs.lemmas.Bool.{cases_lt}
-use Rattle.std.proofs.lemmas.Int.{ints, unsigned_abs-mul, fits_signed_from_abs, to_z-of_z, to_z_pos, wrapping_mul-bits, int_wrap_fits}
-use Rattle.std.proofs.lemmas.Nat.{pow_below}
+use Rattle.std.proofs.lemmas.Int.{ints}
 use Rattle.std.proofs.lemmas.List.{take_more_set, ext_get_or, get_or-drop, get_or_past}
 use Rattle.std.proofs.Math.Seq.{take-length}
 use Rattle.std.proofs.lemmas.Simd.{length-replicate, get_or-replicate}
-use Rattle.std.proofs.Math.Nat.{mul-le-mul_right}
-use Rattle.fixed_arith.specs.Word.{add_words, mult_r_words, abs_of_word, IsNorm}
+use Rattle.fixed_arith.specs.Word.{add_words, mult_r_words, abs_of_word}
 use Rattle.fixed_arith.specs.Signal.{at}
 use Rattle.lar_filter.specs.Reflections.{next_p, next_k, quotients, quotient_of, normal_word, reflections}
 

@@ -1,5 +1,5 @@
 -- Scaling of a frame, and its autocorrelation: GSM 06.10 section 5.2.4.
-use Rattle.std.specs.Prelude.{◌≡◌, ℕ, zero, suc, ◌+◌, ◌-◌, ◌*◌, ◌/◌, ◌^◌, ◌≤◌, ℤ, pos, ◌*ℤ◌, ◌≤ℤ◌, unsigned_abs, List, map, get_or, if◌then◌else◌, ◌==◌}
+use Rattle.std.specs.Prelude.{ℕ, zero, suc, ◌+◌, ◌-◌, ◌*◌, ◌/◌, ◌^◌, ◌≤◌, ℤ, pos, ◌*ℤ◌, ◌≤ℤ◌, unsigned_abs, List, map, if◌then◌else◌, ◌==◌}
 use Rattle.fixed_arith.specs.Word.{mult_r_words, shift_word_left, norm_of}
 use Rattle.fixed_arith.specs.Signal.{at}
 use Rattle.fixed_arith.specs.Sums.{sum_below, greatest_of}

@@ -1,5 +1,5 @@
 -- From reflection coefficients to the codes of the log area ratios: GSM 06.10 sections 5.2.6 and 5.2.7.
-use Rattle.std.specs.Prelude.{ℕ, ℤ, pos, negsuc, ◌+ℤ◌, ◌-ℤ◌, ◌*ℤ◌, neg_ℤ, int_lt, unsigned_abs, List, [], ◌∷◌, if◌then◌else◌}
+use Rattle.std.specs.Prelude.{ℕ, ℤ, pos, negsuc, ◌-ℤ◌, ◌*ℤ◌, neg_ℤ, int_lt, unsigned_abs, List, [], ◌∷◌, if◌then◌else◌}
 use Rattle.std.specs.Int.{int_shr, int_max, int_min}
 use Rattle.fixed_arith.specs.Word.{add_words, mult_words, abs_of_word}
 use Rattle.fixed_arith.specs.Signal.{at}

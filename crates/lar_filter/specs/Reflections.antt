@@ -1,8 +1,7 @@
 -- Reflection coefficients from an autocorrelation, by the recursion of Schur: GSM 06.10 section 5.2.5.
-use Rattle.std.specs.Prelude.{ℕ, zero, suc, ◌+◌, ◌^◌, ℤ, pos, ◌*ℤ◌, ◌<ℤ◌, neg_ℤ, int_lt, unsigned_abs, List, [], ◌∷◌, replicate, if◌then◌else◌}
+use Rattle.std.specs.Prelude.{ℕ, zero, suc, ◌+◌, ◌^◌, ℤ, pos, ◌*ℤ◌, neg_ℤ, int_lt, unsigned_abs, List, [], ◌∷◌, replicate, if◌then◌else◌}
 use Rattle.std.specs.Int.{int_shr}
 use Rattle.fixed_arith.specs.Word.{add_words, mult_r_words, abs_of_word, div_words, norm_of}
-use Rattle.fixed_arith.specs.Signal.{at}
 
 -- the coefficient that a turn gives: the quotient of p(1) by p(0), with the opposite sign
 unfoldable pub quotient_of : ℤ → ℤ → ℤ

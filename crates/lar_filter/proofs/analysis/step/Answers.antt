@@ -1,7 +1,7 @@
 use Rattle.std.proofs.Common.{rules, arith, FitsSigned, w16, to_z}
 use Rattle.std.proofs.lemmas.Int.{to_z-of_z}
 use Rattle.fixed_arith.specs.Signal.{at}
-use Rattle.lar_filter.proofs.RisingLaws.{Rises, Rises-start, Rises-more, RisesTo-whole}
+use Rattle.lar_filter.proofs.RisingLaws.{Rises-start, Rises-more, RisesTo-whole}
 use Rattle.lar_filter.proofs.analysis.step.Goals as goal
 
 pub loop-i-init : goal.loop-i-init

@@ -1,8 +1,5 @@
-use Rattle.std.proofs.Common.{rules, arith, ◌∙◌, ◌≡◌, sym, ap, ◌≤◌}
-use Rattle.std.specs.Prelude.{unsigned_abs}
+use Rattle.std.proofs.Common.{arith, ◌≤◌}
 use Rattle.std.proofs.lemmas.Int.{ints}
-use Rattle.fixed_arith.specs.Signal.{at}
-use Rattle.lar_filter.specs.Autocorrelation.{scaled, correlation}
 use Rattle.lar_filter.proofs.ScaleLaws.{correlation_le_first, first_sign}
 use Rattle.lar_filter.proofs.autocorrelation.autocorrelate.Goals as goal
 

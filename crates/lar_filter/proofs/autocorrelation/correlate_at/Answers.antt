@@ -1,4 +1,4 @@
-use Rattle.std.proofs.Common.{rules, arith, ◌≡◌, ◌≤◌, ◌+◌, ◌-◌, ◌*ℤ◌, ◌+ℤ◌, sym, refl, pos, FitsSigned, w16, w32, to_z, ℕ, ℤ, ap}
+use Rattle.std.proofs.Common.{rules, arith, ◌≡◌, ◌+◌, ◌-◌, ◌*ℤ◌, ◌+ℤ◌, sym, refl, pos, FitsSigned, w16, w32, to_z}
 use Rattle.std.proofs.lemmas.Int.{to_z-of_z}
 use Rattle.fixed_arith.specs.Sums.{sum_below}
 use Rattle.fixed_arith.proofs.SumLaws.{sum_zero, sum_step}

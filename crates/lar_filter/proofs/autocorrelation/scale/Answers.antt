@@ -1,4 +1,4 @@
-use Rattle.std.proofs.Common.{arith, rules, ◌≡◌, ◌*◌, ◌^◌, ◌<◌, ◌-◌, ◌+◌, FitsSigned, w16, w32, pos, ◌*ℤ◌, ap}
+use Rattle.std.proofs.Common.{arith, FitsSigned, w16, w32, pos, ◌*ℤ◌}
 use Rattle.std.specs.Prelude.{unsigned_abs}
 use Rattle.std.proofs.lemmas.Int.{to_z-of_z, ints, unsigned_abs-mul}
 use Rattle.lar_filter.proofs.ScaleLaws.{scale_fits}

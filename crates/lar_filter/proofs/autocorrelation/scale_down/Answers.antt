@@ -1,8 +1,6 @@
-use Rattle.std.proofs.Common.{rules, arith, ◌≡◌, ◌∙◌, ◌<◌, ◌≤◌, ◌+◌, ◌^◌, ap, map, pos, inl, inr, FitsSigned, w16, length}
-use Rattle.std.specs.Prelude.{unsigned_abs}
+use Rattle.std.proofs.Common.{rules, arith, ◌∙◌, ◌<◌, ◌≤◌, ap, map, pos, inl, inr, FitsSigned, w16, length}
 use Rattle.std.proofs.lemmas.Int.{to_z-of_z}
 use Rattle.std.proofs.lemmas.Bool.{cases_lt}
-use Rattle.fixed_arith.specs.Sums.{greatest_of}
 use Rattle.fixed_arith.proofs.Arrays.{MapsInPlace-whole}
 use Rattle.std.proofs.lemmas.List.{get_or_past}
 use Rattle.fixed_arith.specs.Signal.{at}

@@ -1,4 +1,4 @@
-use Rattle.std.proofs.Common.{rules, arith}
+use Rattle.std.proofs.Common.{arith}
 use Rattle.fixed_arith.proofs.Arrays.{MapsInPlace-whole}
 use Rattle.lar_filter.proofs.autocorrelation.scale_up.Goals as goal
 

@@ -1,4 +1,4 @@
-use Rattle.std.proofs.Common.{rules, arith, refl, ap, pos, ◌-ℤ◌, ◌≤ℤ◌, ◌<◌, FitsSigned, w16}
+use Rattle.std.proofs.Common.{rules, arith, refl, pos, ◌-ℤ◌, ◌≤ℤ◌, ◌<◌, FitsSigned, w16}
 use Rattle.std.specs.Prelude.{unsigned_abs}
 use Rattle.std.proofs.lemmas.Int.{to_z-of_z, ints}
 use Rattle.lar_filter.proofs.LimitLaws.{byte_cast, limit_low, limit_high}

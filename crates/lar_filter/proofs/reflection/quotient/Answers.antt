@@ -1,5 +1,4 @@
-use Rattle.std.proofs.Common.{rules, arith, ap, ◌∙◌, ◌≡◌, refl, sym, true, pos, ◌≤ℤ◌, ◌-ℤ◌, FitsSigned, w16}
-use Rattle.std.specs.Prelude.{int_lt, neg_ℤ}
+use Rattle.std.proofs.Common.{rules, arith, ap, ◌∙◌, ◌≡◌, sym, pos, ◌≤ℤ◌, ◌-ℤ◌, FitsSigned, w16}
 use Rattle.std.proofs.lemmas.Int.{to_z-of_z, ints}
 use Rattle.fixed_arith.specs.Word.{div_words, abs_of_word}
 use Rattle.fixed_arith.proofs.LongLaws.{div_words_sign}

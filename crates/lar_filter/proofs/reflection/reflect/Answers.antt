@@ -1,9 +1,9 @@
-use Rattle.std.proofs.Common.{rules, arith, refl, FitsSigned, w16, pos, ◌-◌, ◌≡◌, true, false}
+use Rattle.std.proofs.Common.{rules, arith, FitsSigned, w16, ◌≡◌, true, false}
 use Rattle.std.proofs.lemmas.Int.{to_z-of_z}
 use Rattle.std.specs.Prelude.{int_lt}
 use Rattle.fixed_arith.specs.Word.{abs_of_word}
 use Rattle.fixed_arith.specs.Signal.{at}
-use Rattle.lar_filter.proofs.SchurLaws.{Reflects-start, Reflects-stop, Reflects-more, Reflects-whole}
+use Rattle.lar_filter.proofs.SchurLaws.{Reflects-stop, Reflects-more, Reflects-whole}
 use Rattle.lar_filter.proofs.reflection.reflect.Goals as goal
 
 pub loop-n-preserved : goal.loop-n-preserved

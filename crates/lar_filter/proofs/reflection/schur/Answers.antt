@@ -1,5 +1,4 @@
-use Rattle.std.proofs.Common.{rules, arith, ◌∙◌, ◌≡◌, true, false, pos, FitsSigned, w32}
-use Rattle.std.specs.Prelude.{int_lt}
+use Rattle.std.proofs.Common.{rules, ◌∙◌, FitsSigned, w32}
 use Rattle.std.proofs.lemmas.Int.{to_z-of_z}
 use Rattle.fixed_arith.specs.Signal.{at}
 use Rattle.lar_filter.proofs.SchurLaws.{reflections_none, reflections_some}

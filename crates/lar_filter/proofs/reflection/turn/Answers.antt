@@ -1,4 +1,4 @@
-use Rattle.std.proofs.Common.{rules, arith, ◌+◌, pos, FitsSigned, w16}
+use Rattle.std.proofs.Common.{rules, arith, ◌+◌, FitsSigned, w16}
 use Rattle.std.proofs.lemmas.Int.{to_z-of_z}
 use Rattle.fixed_arith.specs.Signal.{at}
 use Rattle.lar_filter.proofs.SchurLaws.{Turning-start, Turning-more}
