@@ -1,4 +1,4 @@
-use Rattle.std.proofs.Common.{rules, arith, ◌∙◌, ◌≡◌, ◌<◌, ◌≤◌, ◌≤ℤ◌, ◌+◌, pos, refl, take, get_or, inl, inr, length, FitsSigned, w16, to_z, below_more}
+use Rattle.std.proofs.Common.{rules, arith, ◌∙◌, ◌≤ℤ◌, pos, refl, get_or, inl, inr, length, FitsSigned, w16, to_z, below_more}
 use Rattle.std.proofs.lemmas.Int.{to_z-of_z, ints}
 use Rattle.std.proofs.lemmas.Bool.{cases_lt}
 use Rattle.std.proofs.lemmas.List.{get_or_past}
