@@ -1,1 +1,5 @@
 pub mod WordLaws
+pub mod LongLaws
+pub mod SumLaws
+pub mod GreatestLaws
+pub mod Arrays

@@ -2,7 +2,9 @@
 #![tactic(auto)]
 
 mod long_words;
+mod magnitudes;
 mod words;
 
 pub use long_words::{long_add, long_sub, norm_long};
+pub use magnitudes::greatest;
 pub use words::{abs_word, add, clip16, div_word, mult, mult_r, shift_left, sub};

@@ -1,3 +1,8 @@
 pub mod RunLaws
 pub mod LatticeLaws
 pub mod TraceLaws
+pub mod ScaleLaws
+pub mod SchurLaws
+pub mod LimitLaws
+pub mod RisingLaws
+pub mod RisingTraceLaws

@@ -7,7 +7,7 @@ use Rattle.lar_filter.specs.Lattice.{StepsTo}
 use Rattle.lar_filter.specs.Trace.{since, coefficients_at, sample_at, Traces}
 
 -- what stood before time t, told from the step at time 0
-since_kept : (i t : ℕ) (before mid : List ℤ) (v0 : ℤ) (v1 : ℕ → ℤ) → at mid i ≡ v0 → since v0 v1 t ≡ since (at mid i) v1 t
+pub since_kept : (i t : ℕ) (before mid : List ℤ) (v0 : ℤ) (v1 : ℕ → ℤ) → at mid i ≡ v0 → since v0 v1 t ≡ since (at mid i) v1 t
 since_kept i t before mid v0 v1 kept = ap (λ (first : ℤ). since first v1 t) (sym kept)
 
 cons_top : (before : List ℤ) (input : List ℤ × ℤ) (inputs : List (List ℤ × ℤ)) (y : ℤ) (ys mid after : List ℤ) (step : StepsTo input.0 before input.1 y mid) (rest : Traces mid inputs ys after)

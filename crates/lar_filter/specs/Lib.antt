@@ -3,3 +3,8 @@ pub mod Coefficients
 pub mod Runs
 pub mod Lattice
 pub mod Trace
+pub mod Autocorrelation
+pub mod Reflections
+pub mod Quantising
+pub mod Rising
+pub mod RisingTrace

@@ -8,7 +8,7 @@ use Rattle.recorder.specs.declared.events.ScriptEvent.TheVariants.{File}
 use Rattle.recorder.specs.Script.{event_text}
 use Rattle.recorder.specs.Heads.{agrees, head_text, heading_of}
 use Rattle.std.specs.Cmp.Lexicographic.{pointwise}
-use Rattle.recorder.proofs.Numbers.{IsBytes, IsBytes-take, IsBytes-drop, again_8, again_2}
+use Rattle.recorder.proofs.Numbers.{IsBytes, IsBytes-take, IsBytes-drop, again_8, again_2, again_4}
 
 -- lists of numbers that compare alike are equal
 same_bytes : (xs ys : List ℕ) → pointwise nat_eq xs ys ≡ true → xs ≡ ys
@@ -61,3 +61,22 @@ head_spelled magic octets eight twelve fits same =
     let tail : slice_index octets 8 ∷ (slice_index octets 9 ∷ drop 10 octets) ≡ drop 8 octets = sym (next-place 8 octets (omega arith) ∙ ap (λ (l : List ℕ). slice_index octets 8 ∷ l) (next-place 9 octets (omega arith))) in
     ap (λ (l : List ℕ). magic ++ (slice_index octets 8 ∷ (slice_index octets 9 ∷ l))) (delay ∙ last)
     ∙ ap (λ (l : List ℕ). magic ++ l) tail ∙ ap (λ (l : List ℕ). l ++ drop 8 octets) whole ∙ take-append-drop 8 octets
+
+-- ---- the fields of a Datagram before its octets
+
+drop-five : (fields : List ℕ) → drop 4 (drop 1 fields) ≡ drop 5 fields
+drop-five [] = refl
+drop-five (x ∷ fields) = refl
+
+pub datagram_spelled : (fields : List ℕ) → length fields ≡ 7 → IsBytes fields
+    → slice_index fields 0 ∷ (big_bytes 4 (big_number 4 (take 4 (drop 1 fields))) ++ big_bytes 2 (big_number 2 (take 2 (drop 5 fields)))) ≡ fields
+datagram_spelled fields len fits =
+    let rest = drop 1 fields in
+    let long : length rest ≡ 6 = omega (arith, length-drop 1 fields) in
+    let at : big_bytes 4 (big_number 4 (take 4 rest)) ≡ take 4 rest = again_4 (take 4 rest) (omega (arith, length-take 4 rest)) (IsBytes-take 4 rest (IsBytes-drop 1 fields fits)) in
+    let two : length (drop 5 fields) ≡ 2 = omega (arith, length-drop 5 fields) in
+    let last : big_bytes 2 (big_number 2 (take 2 (drop 5 fields))) ≡ drop 4 rest =
+    again_2 (take 2 (drop 5 fields)) (omega (arith, length-take 2 (drop 5 fields))) (IsBytes-take 2 (drop 5 fields) (IsBytes-drop 5 fields fits)) ∙ take-all 2 (drop 5 fields) two ∙ sym (drop-five fields) in
+    let parts : big_bytes 4 (big_number 4 (take 4 rest)) ++ big_bytes 2 (big_number 2 (take 2 (drop 5 fields))) ≡ rest =
+    ap (λ (l : List ℕ). l ++ big_bytes 2 (big_number 2 (take 2 (drop 5 fields)))) at ∙ ap (λ (l : List ℕ). take 4 rest ++ l) last ∙ take-append-drop 4 rest in
+    ap (λ (l : List ℕ). slice_index fields 0 ∷ l) parts ∙ sym (first-rest fields (omega arith))

@@ -10,7 +10,7 @@ use Rattle.recorder.specs.declared.fault.RecordFault.{RecordFault}
 use Rattle.recorder.specs.Fields.{judged_behind}
 use Rattle.recorder.specs.Heads.{Heading}
 use Rattle.recorder.specs.Files.{end_mark, event_limit, fault_by}
-use Rattle.recorder.specs.Script.{fault_at, file_fault}
+use Rattle.recorder.specs.Script.{fault_at, file_fault, whole_datagram_fault}
 
 take-short : (m : ℕ) (xs : List ℕ) → length xs ≤ m → take m xs ≡ xs
 take-short zero [] le = refl
@@ -59,3 +59,7 @@ told_behind old mid new kind count at n m piece widths judge P other few took wi
     behind_kind old mid kind count at (λ k. judged_behind (widths k) (judge k)) P other few took
     (subst (λ (o : Option ℕ). IfSome mid (λ rest. P (judged_behind o (judge kind) at rest))) (sym width)
     (told mid new n m piece (λ (l : List ℕ). P (judge kind (at + 1) l)) le len read end p))
+
+-- the same behind the kind of a Datagram
+pub datagram_next : (h : Heading) (count at : ℕ) (rest : List ℕ) → count < event_limit → fault_at h count at (3 ∷ rest) ≡ whole_datagram_fault h (at + 1) rest
+datagram_next h count at rest few = grind (arith, nat_tests)

@@ -1,5 +1,5 @@
 -- What is spelled has no fault, and is spelled so alone.
-use Rattle.std.proofs.Common.{◌≡◌, ℕ, ◌+◌, ◌^◌, ◌<◌, ◌≤◌, Bool, true, ltb, leb, ◌&&◌, List, [], ◌∷◌, ◌++◌, length, take, drop, slice_index, Option, Some, None, refl, sym, ap, subst, ◌∙◌, append_assoc, inl, inr, arith}
+use Rattle.std.proofs.Common.{◌≡◌, ℕ, ◌+◌, ◌^◌, ◌<◌, ◌≤◌, Bool, true, false, ltb, leb, ◌&&◌, List, [], ◌∷◌, ◌++◌, length, take, drop, slice_index, Option, Some, None, refl, sym, ap, subst, ◌∙◌, append_assoc, length-append, inl, inr, arith}
 use Rattle.std.specs.Prelude.{◌==◌, if◌then◌else◌}
 use Rattle.std.specs.List.{flat_map, AllByRecursion}
 use Rattle.std.proofs.Math.Nat.{pow-le-pow_right}
@@ -10,12 +10,12 @@ use Rattle.byteorder.specs.Endian.{big_bytes, big_number}
 use Rattle.byteorder.specs.Numbers.{big_number-reads_back}
 use Rattle.recorder.specs.declared.fault.RecordFault.{RecordFault}
 use Rattle.recorder.specs.declared.events.ScriptEvent.{ScriptEvent}
-use Rattle.recorder.specs.declared.events.ScriptEvent.TheVariants.{Tick, File}
+use Rattle.recorder.specs.declared.events.ScriptEvent.TheVariants.{Tick, File, Datagram, Beat}
 use Rattle.recorder.specs.Fields.{judged}
 use Rattle.recorder.specs.Heads.{Heading, IsHeading, head_fault, head_text, script_magic}
 use Rattle.recorder.specs.Files.{end_mark, event_limit, is_signed}
-use Rattle.recorder.specs.Script.{event_text, EventFits, FileFits, file_fault, fault_at, script_text, ScriptsHaveNoFault}
-use Rattle.recorder.proofs.Taken.{file_next}
+use Rattle.recorder.specs.Script.{event_text, EventFits, FileFits, DatagramFits, announced, datagram_fault, whole_datagram_fault, file_fault, fault_at, script_text, ScriptsHaveNoFault}
+use Rattle.recorder.proofs.Taken.{file_next, datagram_next}
 use Rattle.recorder.proofs.Spelled.{take-all}
 
 judged-pass : (octets : List ℕ) (from start width : ℕ) (passes : List ℕ → Bool) (rest : Option RecordFault) → start + width ≤ length octets → passes (take width (drop start octets)) ≡ true → judged octets from start width passes rest ≡ rest
@@ -38,9 +38,30 @@ file_clear h from caller number frame fits =
     let c : is_signed (take 33 (drop 9 fields)) ≡ true = rw last (grind (arith, nat_tests, fits.in_frame.signature)) in
     judged-pass fields from 0 1 (λ (o : List ℕ). ltb (slice_index o 0) h.filers) _ (omega (arith, long)) a ∙ judged-pass fields from 1 8 (λ (o : List ℕ). ltb (big_number 8 o) (2 ^ 47)) _ (omega (arith, long)) b ∙ judged-pass fields from 9 33 is_signed None (omega (arith, long)) c
 
+-- the seven octets before the octets of a Datagram
+abbrev datagram_fields : ℕ → ℕ → ℕ → List ℕ
+datagram_fields caller at count = caller ∷ (big_bytes 4 at ++ big_bytes 2 count)
+
+datagram_clear : (h : Heading) (from caller at : ℕ) (octets : List ℕ) → DatagramFits h caller at octets → datagram_fault h from (datagram_fields caller at (length octets)) ≡ None
+datagram_clear h from caller at octets fits =
+    let fields = datagram_fields caller at (length octets) in
+    let back : big_number 2 (take 2 (drop 5 fields)) ≡ length octets = big_number-reads_back 2 (length octets) [] (omega (arith, fits.short)) in
+    let a : ltb (slice_index (take 1 (drop 0 fields)) 0) h.filers ≡ true = grind (arith, nat_tests, fits.in_caller) in
+    let c : leb (big_number 2 (take 2 (drop 5 fields))) 2048 ≡ true = rw back (grind (arith, nat_tests, fits.short)) in
+    judged-pass fields from 0 1 (λ (o : List ℕ). ltb (slice_index o 0) h.filers) _ (omega arith) a ∙ judged-pass fields from 1 4 (λ (o : List ℕ). true) _ (omega arith) refl ∙ judged-pass fields from 5 2 (λ (o : List ℕ). leb (big_number 2 o) 2048) None (omega arith) c
+
+whole_clear : (h : Heading) (from caller at : ℕ) (octets rest : List ℕ) → DatagramFits h caller at octets → whole_datagram_fault h from (datagram_fields caller at (length octets) ++ (octets ++ rest)) ≡ None
+whole_clear h from caller at octets rest fits =
+    let back : announced (datagram_fields caller at (length octets) ++ (octets ++ rest)) ≡ length octets = big_number-reads_back 2 (length octets) [] (omega (arith, fits.short)) in
+    let there : ltb (length (octets ++ rest)) (length octets) ≡ false = le-ltb _ _ (omega (arith, length-append octets rest)) in
+    rw (datagram_clear h from caller at octets fits, back, there) refl
+
 -- at an event in its ranges stands no fault
 event_clear : (h : Heading) (count at : ℕ) (e : ScriptEvent) (rest : List ℕ) → EventFits h e → count < event_limit → fault_at h count at (event_text e ++ rest) ≡ None
 event_clear h count at Tick rest fits few = grind (arith, nat_tests)
+event_clear h count at Beat rest fits few = grind (arith, nat_tests)
+event_clear h count at (Datagram caller moment octets) rest fits few =
+    datagram_next h count at (datagram_fields caller moment (length octets) ++ (octets ++ rest)) few ∙ whole_clear h (at + 1) caller moment octets rest fits
 event_clear h count at (File caller number frame) rest fits few =
     let fields = file_fields caller number frame in
     let long : length fields ≡ 42 = omega (arith, fits.in_frame.size) in
@@ -52,10 +73,16 @@ front_of [] = None
 front_of (kind ∷ l) =
     if kind == 1 then Some (Tick, l)
     else if kind == 2 then Some (File (slice_index l 0) (big_number 8 (take 8 (drop 1 l))) (take 33 (drop 9 l)), drop 42 l)
+    else if kind == 3 then Some (Datagram (slice_index l 0) (big_number 4 (take 4 (drop 1 l))) (take (announced l) (drop 7 l)), drop (announced l) (drop 7 l))
+    else if kind == 4 then Some (Beat, l)
     else None
 
 front_is : (h : Heading) (e : ScriptEvent) (x : List ℕ) → EventFits h e → front_of (event_text e ++ x) ≡ Some (e, x)
 front_is h Tick x fits = refl
+front_is h Beat x fits = refl
+front_is h (Datagram caller at octets) x fits =
+    let len : announced (datagram_fields caller at (length octets) ++ (octets ++ x)) ≡ length octets = big_number-reads_back 2 (length octets) [] (omega (arith, fits.short)) in
+    rw (big_number-reads_back 4 at [] (omega (arith, fits.in_at)), len, take_at octets x (length octets) refl, drop_at octets x (length octets) refl) refl
 front_is h (File caller number frame) x fits =
     let back : big_number 8 (take 8 (big_bytes 8 number ++ (frame ++ x))) ≡ number = big_number-reads_back 8 number [] (omega (arith, fits.in_number)) in
     rw (back, take_at frame x 33 fits.in_frame.size, drop_at frame x 33 fits.in_frame.size) refl

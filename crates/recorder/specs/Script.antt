@@ -1,12 +1,12 @@
 -- The script: a head, events and the end mark.
-use Rattle.std.specs.Prelude.{ℕ, ◌+◌, ◌≡◌, ◌≤◌, ◌<◌, ◌^◌, List, [], ◌∷◌, ◌++◌, length, take, slice_index, ◌==◌, nat_lt, Option, Some, None, if◌then◌else◌, ◌⊎◌}
+use Rattle.std.specs.Prelude.{ℕ, ◌+◌, ◌≡◌, ◌≤◌, ◌<◌, ◌^◌, List, [], ◌∷◌, ◌++◌, length, take, drop, slice_index, true, ◌==◌, nat_lt, nat_le, Option, Some, None, if◌then◌else◌, ◌⊎◌}
 use Rattle.std.specs.List.{flat_map, AllByRecursion}
 use Rattle.byteorder.specs.Endian.{big_bytes, big_number}
 use Rattle.frame_codec.specs.Octets.{IsFrame}
 use Rattle.recorder.specs.declared.fault.RecordFault.{RecordFault}
-use Rattle.recorder.specs.declared.fault.RecordFault.TheVariants.{Kind}
+use Rattle.recorder.specs.declared.fault.RecordFault.TheVariants.{Kind, Cut}
 use Rattle.recorder.specs.declared.events.ScriptEvent.{ScriptEvent}
-use Rattle.recorder.specs.declared.events.ScriptEvent.TheVariants.{Tick, File}
+use Rattle.recorder.specs.declared.events.ScriptEvent.TheVariants.{Tick, File, Datagram, Beat}
 use Rattle.recorder.specs.Fields.{judged}
 use Rattle.recorder.specs.Files.{end_mark, event_limit, is_signed, answer_by, fault_by}
 use Rattle.recorder.specs.Heads.{Heading, IsHeading, head_fault, head_text, script_magic}
@@ -15,6 +15,8 @@ use Rattle.recorder.specs.Heads.{Heading, IsHeading, head_fault, head_text, scri
 abbrev pub event_text : ScriptEvent → List ℕ
 event_text Tick = 1 ∷ []
 event_text (File caller number frame) = 2 ∷ caller ∷ (big_bytes 8 number ++ frame)
+event_text (Datagram caller at octets) = 3 ∷ caller ∷ (big_bytes 4 at ++ (big_bytes 2 (length octets) ++ octets))
+event_text Beat = 4 ∷ []
 
 -- the octets of what a reader answers: an event, or none at the end mark
 abbrev pub answer_text : Option ScriptEvent → List ℕ
@@ -26,10 +28,18 @@ pub record FileFits (h : Heading) (caller number : ℕ) (frame : List ℕ) : Typ
   pub in_number : number < 2 ^ 47
   pub in_frame : IsFrame frame
 
+-- the fields of a Datagram are in their ranges
+pub record DatagramFits (h : Heading) (caller at : ℕ) (octets : List ℕ) : Type 0 where
+  pub in_caller : caller < h.filers
+  pub in_at : at < 2 ^ 32
+  pub short : length octets ≤ 2048
+
 -- the fields of an event are in their ranges, under this head
 abbrev pub EventFits : Heading → ScriptEvent → Type 0
 EventFits h Tick = Unit {0}
 EventFits h (File caller number frame) = FileFits h caller number frame
+EventFits h (Datagram caller at octets) = DatagramFits h caller at octets
+EventFits h Beat = Unit {0}
 
 -- a head with the most filers
 abbrev pub widest : Heading
@@ -46,11 +56,38 @@ file_fault h from fields =
     (judged fields from 1 8 (λ o. nat_lt (big_number 8 o) (2 ^ 47))
     (judged fields from 9 33 is_signed None))
 
+-- the first fault of the fields of a Datagram before its octets, seven octets at most
+abbrev pub datagram_fault : Heading → ℕ → List ℕ → Option RecordFault
+datagram_fault h from fields =
+    judged fields from 0 1 (λ o. nat_lt (slice_index o 0) h.filers)
+    (judged fields from 1 4 (λ o. true)
+    (judged fields from 5 2 (λ o. nat_le (big_number 2 o) 2048) None))
+
+-- the fault of so many octets, where these are left
+abbrev pub octets_fault : ℕ → ℕ → List ℕ → Option RecordFault
+octets_fault from count octets = if nat_lt (length octets) count then Some (Cut (from + length octets)) else None
+
+-- how many octets the fields of a Datagram announce
+abbrev pub announced : List ℕ → ℕ
+announced fields = big_number 2 (take 2 (drop 5 fields))
+
+-- of two parts, one behind the other, the first fault
+infixl 5 ◌then◌
+abbrev pub ◌then◌ : Option RecordFault → Option RecordFault → Option RecordFault
+(Some f) then later = Some f
+None then later = later
+
+-- the first fault of a Datagram behind its kind
+abbrev pub whole_datagram_fault : Heading → ℕ → List ℕ → Option RecordFault
+whole_datagram_fault h from fields = datagram_fault h from (take 7 fields) then octets_fault (from + 7) (announced fields) (drop 7 fields)
+
 -- the fault of a kind that stands at place `at`, or of what follows it
 abbrev pub kind_fault : Heading → ℕ → ℕ → List ℕ → Option RecordFault
 kind_fault h kind at rest =
     if kind == 1 then None
     else if kind == 2 then file_fault h (at + 1) (take 42 rest)
+    else if kind == 3 then whole_datagram_fault h (at + 1) rest
+    else if kind == 4 then None
     else Some (Kind at)
 
 -- the fault that stands at place `at`, after so many events, where these octets are left

@@ -1,9 +1,10 @@
 // The events of the files.
+use crate::packet::Packet;
 use frame_codec::Frame33;
 use play_machine::FileReply;
 
 /// An event of a script.
-#[derive(Debug, Drop)]
+#[derive(Drop)]
 pub enum ScriptEvent {
     /// The player takes the item of its next 20 ms.
     Tick,
@@ -13,6 +14,14 @@ pub enum ScriptEvent {
         number: u64,
         frame: Frame33,
     },
+    /// A filer takes a datagram at a moment, in samples of 125 microseconds.
+    Datagram {
+        caller: u8,
+        at: u32,
+        octets: Packet,
+    },
+    /// The player makes its next beat.
+    Beat,
 }
 
 /// An event of the player's journal.

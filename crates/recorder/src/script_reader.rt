@@ -94,7 +94,8 @@ fn size_of(event: &ScriptEvent) -> u64
     ensures small { result ≤ 4096 }
 {
     match event {
-        ScriptEvent::Tick => 1,
+        ScriptEvent::Tick | ScriptEvent::Beat => 1,
+        ScriptEvent::Datagram { octets, .. } => 8 + octets.octets().len() as u64,
         ScriptEvent::File { frame, .. } => 10 + frame.octets().len() as u64,
     }
 }

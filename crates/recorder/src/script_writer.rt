@@ -1,5 +1,6 @@
 // The writing of scripts.
-ghost use Rattle.std.specs.Prelude.{◌≡◌, ◌∷◌, ◌++◌};
+ghost use Rattle.std.specs.Prelude.{◌≡◌, ◌∷◌, ◌++◌, ◌+◌, ◌≤◌, length};
+ghost use Rattle.byteorder.specs.Endian.{big_bytes};
 ghost use Rattle.gate_base.specs.Faults.{HasCause};
 ghost use Rattle.gate_io.specs.Flow.{Gives};
 ghost use Rattle.recorder.specs.Heads.{head_text, script_magic};
@@ -7,6 +8,8 @@ ghost use Rattle.recorder.specs.Script.{FitsSomeHead, event_text};
 
 use crate::events::ScriptEvent;
 use crate::heading::{Head, head_octets};
+use crate::packet::Packet;
+use arrayvec::ArrayVec;
 use byteorder::{BigEndian, ByteOrder};
 use gate_io::{Failed, Sink};
 
@@ -30,6 +33,10 @@ pub fn write_script<O: Sink>(event: &ScriptEvent, sink: &mut O) -> Result<(), Fa
 {
     match event {
         ScriptEvent::Tick => sink.give(&[0x01]),
+        ScriptEvent::Beat => sink.give(&[0x04]),
+        ScriptEvent::Datagram { caller, at, octets } => {
+            sink.give(datagram_octets(*caller, *at, octets).as_slice())
+        }
         ScriptEvent::File {
             caller,
             number,
@@ -42,4 +49,36 @@ pub fn write_script<O: Sink>(event: &ScriptEvent, sink: &mut O) -> Result<(), Fa
             sink.give(&octets)
         }
     }
+}
+
+// The kind of a Datagram and its fields before its octets, of which there are so many.
+fn datagram_front(caller: u8, at: u32, length: u16) -> [u8; 8]
+    ensures { result ≡ 3 ∷ caller ∷ (big_bytes 4 at ++ big_bytes 2 length) }
+{
+    let mut octets = [0x03; 8];
+    octets[1] = caller;
+    BigEndian::write_u32(&mut octets[2..6], at);
+    BigEndian::write_u16(&mut octets[6..], length);
+    octets
+}
+
+// Puts these octets behind those that are there.
+fn append(whole: &mut ArrayVec<u8, 2056>, octets: &[u8])
+    requires { length whole.old.items + length octets.now ≤ 2056 }
+    ensures { whole.new.items ≡ whole.old.items ++ octets.now }
+{
+    for octet in octets {
+        whole.push(*octet);
+    }
+}
+
+// The octets of a Datagram, its kind first.
+fn datagram_octets(caller: u8, at: u32, packet: &Packet) -> ArrayVec<u8, 2056>
+    ensures { result.items ≡ 3 ∷ caller ∷ (big_bytes 4 at ++ (big_bytes 2 (length packet.now) ++ packet.now)) }
+{
+    let octets = packet.octets();
+    let mut whole = ArrayVec::new();
+    append(&mut whole, &datagram_front(caller, at, octets.len() as u16));
+    append(&mut whole, octets);
+    whole
 }

@@ -68,8 +68,6 @@ fn a_wrong_octet_is_told_with_its_place(rt: HostRuntime) -> Result<(), Fail> {
         (9, 11, field(9)),
         (11, 64, field(10)),
         (12, 0x09, kind(12)),
-        (12, 0x03, kind(12)),
-        (12, 0x04, kind(12)),
         (13, 1, field(13)),
         (14, 0x80, field(14)),
         (22, 0xC8, field(22)),
@@ -318,5 +316,74 @@ fn a_script_has_its_octets(rt: HostRuntime) -> Result<(), Fail> {
     );
     assert_eq!(rt; given[16..24], *b"\0\x01\0\0\0\x40\xDA\xDA".as_slice());
     assert_eq!(rt; given[54..], *b"\xDA\x01".as_slice());
+    Ok(())
+}
+
+// A head, a Datagram of two octets at moment 7, a Beat and the end mark.
+fn exchange() -> [u8; 24] {
+    let mut octets = [0xFF; 24];
+    octets.copy_from_slice(b"GSMGSC01\x01\x06\0\x03\x03\0\0\0\0\x07\0\x02\xAB\xCD\x04\xFF");
+    octets
+}
+
+// The answer to these octets: whether the end mark comes behind two events.
+fn exchanged(alloc: Global, octets: &[u8]) -> Result<Result<bool, RecordEnd>, OutOfMemory> {
+    let mut source = MemorySource::new(alloc, octets, 3, &[])?;
+    Ok(ends_behind_two(&mut source))
+}
+
+fn ends_behind_two(source: &mut MemorySource) -> Result<bool, RecordEnd> {
+    let mut reader = ScriptReader::new();
+    reader.head(source)?;
+    reader.next(source)?;
+    reader.next(source)?;
+    Ok(reader.next(source)?.is_none())
+}
+
+#[test]
+fn a_datagram_is_read_and_each_fault_is_told(rt: HostRuntime) -> Result<(), Fail> {
+    let octets = exchange();
+    assert_eq!(rt; exchanged(rt.alloc(), &octets)?, Ok(true));
+    for n in 0..24 {
+        let fault = RecordFault::Cut { at: n as u64 };
+        assert_eq!(rt;
+            exchanged(rt.alloc(), &octets[..n])?,
+            Err(RecordEnd::Fault(fault))
+        );
+    }
+    let cases = [
+        (13, 0x01, RecordFault::Field { at: 13 }),
+        (18, 0x09, RecordFault::Field { at: 18 }),
+        (19, 0x05, RecordFault::Cut { at: 24 }),
+        (22, 0x05, RecordFault::Kind { at: 22 }),
+    ];
+    for (at, octet, fault) in cases {
+        let mut wrong = exchange();
+        assert!(rt; at < 24);
+        wrong[at] = octet;
+        assert_eq!(rt;
+            exchanged(rt.alloc(), &wrong)?,
+            Err(RecordEnd::Fault(fault))
+        );
+    }
+    Ok(())
+}
+
+#[test]
+fn a_datagram_and_a_beat_have_their_octets(rt: HostRuntime) -> Result<(), Fail> {
+    let mut sink = MemorySink::new(rt.alloc(), 100, &[])?;
+    let octets = Packet::of(b"\xAB\xCD");
+    assert_eq!(rt; octets.octets(), b"\xAB\xCD".as_slice());
+    let event = ScriptEvent::Datagram {
+        caller: 0,
+        at: 7,
+        octets,
+    };
+    assert_eq!(rt; write_script(&event, &mut sink), Ok(()));
+    assert_eq!(rt; write_script(&ScriptEvent::Beat, &mut sink), Ok(()));
+    assert_eq!(rt;
+        sink.octets(),
+        b"\x03\0\0\0\0\x07\0\x02\xAB\xCD\x04".as_slice()
+    );
     Ok(())
 }

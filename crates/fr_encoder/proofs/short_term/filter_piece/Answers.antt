@@ -1,0 +1,23 @@
+use Rattle.std.proofs.Common.{rules, ◌≡◌, ◌++◌, length}
+use Rattle.fr_encoder.proofs.FedLaws.{PassesFrame-from_parts, pieces_are}
+use Rattle.fr_encoder.proofs.short_term.filter_piece.Goals as goal
+
+pub returns : goal.returns
+returns c =
+    let size0 : length c.split_at_mut-first.result.0.now ≡ 13 = search rules in
+    let size1 : length c.split_at_mut-second.result.0.now ≡ 14 = search rules in
+    let size2 : length c.split_at_mut-third.result.0.now ≡ 13 = search rules in
+    let whole : c.args.samples.now ≡ c.split_at_mut-first.result.0.now ++ (c.split_at_mut-second.result.0.now ++ (c.split_at_mut-third.result.0.now ++ c.split_at_mut-third.result.1.now)) =
+    pieces_are c.args.samples.now _ _ _ _ _ _ 13 14 13 c.split_at_mut-first.ensures.front c.split_at_mut-first.ensures.back c.split_at_mut-second.ensures.front c.split_at_mut-second.ensures.back
+    c.split_at_mut-third.ensures.front c.split_at_mut-third.ensures.back in
+    record {
+      goes_on = λ start inputs ys run.
+          let first = c.run.ensures.goes_on start inputs ys run in
+          let second = c.run-2.ensures.goes_on start _ _ first in
+          let third = c.run-3.ensures.goes_on start _ _ second in
+          PassesFrame-from_parts c.args.before.now c.args.now.now c.coefficients.result c.coefficients-2.result c.coefficients-3.result c.coefficients-4.result c.args.samples.now
+          c.split_at_mut-first.result.0.now c.split_at_mut-second.result.0.now c.split_at_mut-third.result.0.now c.split_at_mut-third.result.1.now
+          start inputs ys c.run.new.samples c.run-2.new.samples c.run-3.new.samples c.run-4.new.samples c.run-4.new.self
+          whole size0 size1 size2 c.coefficients.ensures c.coefficients-2.ensures c.coefficients-3.ensures c.coefficients-4.ensures
+          (c.run-4.ensures.goes_on start _ _ third) (c.run-4.ensures.equations start _ _ third);
+    }

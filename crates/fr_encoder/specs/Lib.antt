@@ -1,0 +1,3 @@
+pub mod Preprocessing
+pub mod ShortTerm
+pub mod Fronting

@@ -1,0 +1,6 @@
+use Rattle.std.proofs.Common.{arith}
+use Rattle.fixed_arith.proofs.Arrays.{MapsInPlace-whole}
+use Rattle.lar_filter.proofs.autocorrelation.scale_up.Goals as goal
+
+pub returns : goal.returns
+returns c = MapsInPlace-whole _ _ _ c.loop-sample.sample-index (omega arith) c.loop-sample.invariant
