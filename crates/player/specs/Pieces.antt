@@ -1,5 +1,5 @@
 -- Speech that is read in pieces of 20 ms.
-use Rattle.std.specs.Prelude.{ℕ, ◌≡◌, ◌-◌, ◌<◌, ◌≤◌, List, [], ◌++◌, length, replicate, ℤ, Option, Some, None, Result, Ok, Err}
+use Rattle.std.specs.Prelude.{ℕ, ◌≡◌, ◌-◌, ◌<◌, ◌≤◌, List, [], ◌∷◌, ◌++◌, length, replicate, ℤ, Option, Some, None, Result, Ok, Err}
 use Rattle.std.specs.Io.KnownBytes.{Consumes, IsAtEnd}
 use Rattle.gate_io.specs.Flow.{ConsumesSome}
 use Rattle.substitution.specs.Heard.{sample_octets}
@@ -21,3 +21,9 @@ abbrev pub TakesPiece : {E : Type 0} → Option (List ℕ) → Option (List ℕ)
 TakesPiece old new (Ok (Some samples)) = (octets : List ℕ) × IsPiece old new octets samples
 TakesPiece old new (Ok None) = Consumes old new [] × IsAtEnd new
 TakesPiece old new (Err e) = ConsumesSome old new
+
+-- the pieces are cut off the octets one after the other, fewer than 320 octets only where nothing follows, and so much is left
+abbrev pub CutsOff : List ℕ → List (List ℕ) → List ℕ → Type 0
+CutsOff octets [] rest = octets ≡ rest
+CutsOff octets (piece ∷ pieces) rest =
+    (more : List ℕ) × (octets ≡ piece ++ more) × (0 < length piece) × (length piece ≤ 320) × (length piece < 320 → more ≡ []) × CutsOff more pieces rest

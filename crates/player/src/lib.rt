@@ -2,5 +2,10 @@
 #![tactic(auto)]
 
 mod pieces;
+mod return_stream;
 
 pub use pieces::take_piece;
+pub use return_stream::{ReturnEnd, ReturnStream};
+
+#[cfg(test)]
+mod tests;

@@ -1,0 +1,22 @@
+-- What the loop over pieces does.
+use Rattle.std.specs.Prelude.{ℕ, ◌≡◌, ◌≢◌, List, [], length, Option, Result, Ok, Err, IfSome}
+use Rattle.recorder.specs.declared.fault.RecordFault.TheVariants.{TooLong}
+use Rattle.gsmgate.specs.Decode.{coded, frame_limit}
+use Rattle.gsmgate.specs.DecodeRuns.{HasSpeech, IsCounted}
+use Rattle.gsmgate.specs.Encode.{Begins, IsEncoded}
+use Rattle.gsmgate.specs.declared.stop.Stop.{Stop}
+use Rattle.gsmgate.specs.declared.stop.Stop.TheVariants.{Refused, ReadFault, WriteFault}
+
+-- what stands behind so many pieces, by how the loop ended
+abbrev pub FollowsPieces : Result ℕ Stop → ℕ → List ℕ → Type 0
+FollowsPieces (Ok n) count rest = rest ≡ []
+FollowsPieces (Err (Refused f)) count rest = (f ≡ TooLong) × (count ≡ frame_limit) × (rest ≢ [])
+FollowsPieces (Err ReadFault) count rest = Unit {0}
+FollowsPieces (Err WriteFault) count rest = Unit {0}
+
+-- the pieces were read and coded, and their frames were given
+pub record HasEncoded (result : Result ℕ Stop) (input before now : Option (List ℕ)) (pieces frames : List (List ℕ)) : Type 0 where
+  pub encoded : IsEncoded pieces frames
+  pub text : IfSome input (Begins pieces (FollowsPieces result (length pieces)))
+  pub given : HasSpeech result before now (coded frames)
+  pub counted : IsCounted result (length frames)
