@@ -1,3 +1,6 @@
 pub mod PulseLaws
 pub mod HistoryLaws
 pub mod LongTermLaws
+pub mod LagLaws
+pub mod WeightLaws
+pub mod PulseCodeLaws

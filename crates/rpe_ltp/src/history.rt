@@ -37,6 +37,14 @@ impl LagHistory {
         self.values[120 - back]
     }
 
+    /// All the values, the oldest first.
+    #[inline]
+    pub(crate) fn values(&self) -> &[i16; 120]
+        ensures { result.now ≡ self.now }
+    {
+        &self.values
+    }
+
     /// Takes the 40 values of a sub-frame behind the others, and drops the 40 oldest.
     #[inline]
     pub fn push(&mut self, values: &[i16; 40])

@@ -28,7 +28,7 @@ pub fn inverse_apcm(xmaxc: u8, xmc: &[u8; 13]) -> [i16; 13]
 
 /// The shift, which is 6 less the exponent, and the mantissa of a level's code.
 #[inline]
-fn level(xmaxc: u8) -> (u32, usize)
+pub(crate) fn level(xmaxc: u8) -> (u32, usize)
     requires { xmaxc < 64 }
     ensures level { record { shift = result.0; mantissa = result.1 } ≡ level_of xmaxc }
     ensures shift { result.0 ≤ 10 }
