@@ -45,6 +45,14 @@ impl LongTerm {
         }
     }
 
+    /// The values that a lag reaches.
+    #[inline]
+    pub fn history(&self) -> &LagHistory
+        ensures { result.now ≡ self.now.history }
+    {
+        &self.history
+    }
+
     /// The values (`drp`) of the next sub-frame.
     pub fn step(&mut self, sub: &SubParams) -> [i16; 40]
         requires fits { SubFits sub.now }
