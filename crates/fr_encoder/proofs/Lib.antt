@@ -4,3 +4,5 @@ pub mod FedLaws
 pub mod PieceLaws
 pub mod ShortTermLaws
 pub mod FrontLaws
+pub mod ExcitationLaws
+pub mod CodingLaws

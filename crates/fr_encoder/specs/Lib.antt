@@ -1,3 +1,5 @@
 pub mod Preprocessing
 pub mod ShortTerm
 pub mod Fronting
+pub mod Excitation
+pub mod Coding
