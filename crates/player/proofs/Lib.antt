@@ -1,2 +1,3 @@
 mod Samples
 mod Streaming
+mod Returned

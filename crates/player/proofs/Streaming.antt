@@ -1,5 +1,5 @@
 -- A return stream, packet by packet.
-use Rattle.std.proofs.Common.{◌≡◌, ℕ, ◌+◌, ◌*◌, ◌%◌, ◌^◌, ◌<◌, List, [], ◌∷◌, ◌++◌, length, Option, get_or, refl, sym, ap, subst, ◌∙◌, append-nil, length-append, inl, inr, arith}
+use Rattle.std.proofs.Common.{◌≡◌, ℕ, ◌+◌, ◌*◌, ◌%◌, ◌^◌, ◌<◌, Bool, false, List, [], ◌∷◌, ◌++◌, length, Option, get_or, refl, sym, ap, subst, ◌∙◌, append-nil, length-append, inl, inr, arith}
 use Rattle.std.specs.Prelude.{ℤ}
 use Rattle.std.specs.List.{flat_map}
 use Rattle.std.specs.Int.{w16, cast_unsigned}
@@ -49,25 +49,22 @@ stamp-more : (stamp n : ℕ) → ((stamp + 160 * n) % 2 ^ 32 + 160) % 2 ^ 32 ≡
 stamp-more stamp n = omega arith
 
 module _ (own sequence stamp : ℕ) (pieces packets : List (List ℕ)) (old new : Stream) (left left' : Option (List ℕ)) (octets frame : List ℕ) (s : Streams own sequence stamp pieces packets old) (c : Codes old new left left' octets frame) where
-  n : ℕ
-  n = length pieces
-
-  numbered : next_packet old frame ≡ packet own ((sequence + n) % 2 ^ 16) ((stamp + 160 * n) % 2 ^ 32) frame
+  numbered : next_packet old frame ≡ packet own ((sequence + length pieces) % 2 ^ 16) ((stamp + 160 * length pieces) % 2 ^ 32) frame
   numbered = λ i. packet (s.own_is i) (s.sequence_is i) (s.stamp_is i) frame
 
-  one-more : length (pieces ++ octets ∷ []) ≡ n + 1
+  one-more : length (pieces ++ octets ∷ []) ≡ length pieces + 1
   one-more = omega (arith, length-append pieces (octets ∷ []))
 
   at-place : (i : ℕ) → i < length (pieces ++ octets ∷ []) → (f : List ℕ) × IsFrame f × Spells f (fields_at (s.frames ++ c.fields ∷ []) i)
       × (get_or (packets ++ next_packet old frame ∷ []) i [] ≡ packet own ((sequence + i) % 2 ^ 16) ((stamp + 160 * i) % 2 ^ 32) f)
-  at-place i h = elim (cases_lt i n) [
+  at-place i h = elim (cases_lt i (length pieces)) [
     | inl before ↦
         let was = s.packets_are i before in
         let same : fields_at (s.frames ++ c.fields ∷ []) i ≡ fields_at s.frames i = get_or-append s.frames (c.fields ∷ []) _ i (omega (arith, s.frame_count)) in
         let there : get_or (packets ++ next_packet old frame ∷ []) i [] ≡ get_or packets i [] = get_or-append packets (next_packet old frame ∷ []) [] i (omega (arith, s.packet_count)) in
         (was.0, was.1, subst (Spells was.0) (sym same) was.2, there ∙ was.3)
     | inr here ↦
-        let is : i ≡ n = omega (arith, one-more) in
+        let is : i ≡ length pieces = omega (arith, one-more) in
         let same : fields_at (s.frames ++ c.fields ∷ []) i ≡ c.fields = behind s.frames c.fields _ i (s.frame_count ∙ sym is) in
         let there : get_or (packets ++ next_packet old frame ∷ []) i [] ≡ next_packet old frame = behind packets (next_packet old frame) [] i (s.packet_count ∙ sym is) in
         (frame, c.framed, subst (Spells frame) (sym same) c.spelled, there ∙ numbered ∙ ap (λ (k : ℕ). packet own ((sequence + k) % 2 ^ 16) ((stamp + 160 * k) % 2 ^ 32) frame) (sym is))
@@ -84,6 +81,6 @@ module _ (own sequence stamp : ℕ) (pieces packets : List (List ℕ)) (old new 
     packet_count = omega (arith, length-append packets (next_packet old frame ∷ []), s.packet_count, one-more);
     packets_are = at-place;
     own_is = ap (λ (t : Stream). t.own) c.state ∙ s.own_is;
-    sequence_is = ap (λ (t : Stream). t.sequence) c.state ∙ ap (λ (k : ℕ). (k + 1) % 2 ^ 16) s.sequence_is ∙ sequence-more sequence n ∙ ap (λ (k : ℕ). (sequence + k) % 2 ^ 16) (sym one-more);
-    stamp_is = ap (λ (t : Stream). t.stamp) c.state ∙ ap (λ (k : ℕ). (k + 160) % 2 ^ 32) s.stamp_is ∙ stamp-more stamp n ∙ ap (λ (k : ℕ). (stamp + 160 * k) % 2 ^ 32) (sym one-more);
+    sequence_is = ap (λ (t : Stream). t.sequence) c.state ∙ ap (λ (k : ℕ). (k + 1) % 2 ^ 16) s.sequence_is ∙ sequence-more sequence (length pieces) ∙ ap (λ (k : ℕ). (sequence + k) % 2 ^ 16) (sym one-more);
+    stamp_is = ap (λ (t : Stream). t.stamp) c.state ∙ ap (λ (k : ℕ). (k + 160) % 2 ^ 32) s.stamp_is ∙ stamp-more stamp (length pieces) ∙ ap (λ (k : ℕ). (stamp + 160 * k) % 2 ^ 32) (sym one-more);
   }

@@ -38,7 +38,7 @@ gone_on s encoder = record s { sequence = (s.sequence + 1) % 2 ^ 16; stamp = (s.
 pub record Codes (old new : Stream) (left left_now : Option (List ℕ)) (octets frame : List ℕ) : Type 0 where
   pub samples : List ℤ
   pub fields : Fields
-  pub open : old.ended ≡ false
+  pub running : old.ended ≡ false
   pub piece : IsPiece left left_now octets samples
   pub framed : IsFrame frame
   pub spelled : Spells frame fields
