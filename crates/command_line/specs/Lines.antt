@@ -3,7 +3,7 @@ use Rattle.std.specs.Prelude.{ℕ, ◌==◌, ◌&&◌, not, List, [], ◌∷◌,
 use Rattle.std.specs.Cmp.Lexicographic.{pointwise}
 use Rattle.command_line.specs.Values.{seed_of}
 use Rattle.command_line.specs.declared.line.Command.{Command}
-use Rattle.command_line.specs.declared.line.Command.TheVariants.{Simulate, Decode, Render}
+use Rattle.command_line.specs.declared.line.Command.TheVariants.{Simulate, Decode, Encode, Render}
 
 abbrev pub Text : Type 0
 Text = List ℕ
@@ -82,6 +82,7 @@ line_of [] = None
 line_of (command ∷ words) =
     if says (codes "simulate") command then simulate_line words
     else if says (codes "decode") command then over_files Decode words
+    else if says (codes "encode") command then over_files Encode words
     else if says (codes "render") command then render_line words
     else None
 

@@ -16,6 +16,8 @@ pub enum Command {
     Simulate { voice: Option<[u8; 32]> },
     /// Coded frames become speech.
     Decode,
+    /// Speech becomes coded frames.
+    Encode,
     /// A player's journal becomes the speech that it played, by a voice of this seed.
     Render { seed: [u8; 32] },
 }
@@ -121,6 +123,7 @@ pub fn line_of<'a>(words: &'a [String]) -> Option<Line<'a>>
         [command, rest @ ..] => match command.as_str() {
             "simulate" => simulate_line(rest),
             "decode" => over_files(Command::Decode, rest),
+            "encode" => over_files(Command::Encode, rest),
             "render" => render_line(rest),
             _ => None,
         },

@@ -4,3 +4,5 @@ pub mod Ends
 pub mod FrameFaults
 pub mod Decoding
 pub mod DecodeEnds
+pub mod Encoding
+pub mod EncodeEnds

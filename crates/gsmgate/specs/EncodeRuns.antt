@@ -7,16 +7,24 @@ use Rattle.gsmgate.specs.Encode.{Begins, IsEncoded}
 use Rattle.gsmgate.specs.declared.stop.Stop.{Stop}
 use Rattle.gsmgate.specs.declared.stop.Stop.TheVariants.{Refused, ReadFault, WriteFault}
 
--- what stands behind so many pieces, by how the loop ended
-abbrev pub FollowsPieces : Result ℕ Stop → ℕ → List ℕ → Type 0
-FollowsPieces (Ok n) count rest = rest ≡ []
-FollowsPieces (Err (Refused f)) count rest = (f ≡ TooLong) × (count ≡ frame_limit) × (rest ≢ [])
-FollowsPieces (Err ReadFault) count rest = Unit {0}
-FollowsPieces (Err WriteFault) count rest = Unit {0}
+-- what stands behind the pieces, by how the loop ended
+abbrev pub FollowsPieces : Result ℕ Stop → List ℕ → Type 0
+FollowsPieces (Ok n) rest = rest ≡ []
+FollowsPieces (Err (Refused f)) rest = rest ≢ []
+FollowsPieces (Err ReadFault) rest = Unit {0}
+FollowsPieces (Err WriteFault) rest = Unit {0}
+
+-- pieces are refused for their number alone
+abbrev pub IsLimited : Result ℕ Stop → ℕ → Type 0
+IsLimited (Ok n) count = Unit {0}
+IsLimited (Err (Refused f)) count = (f ≡ TooLong) × (count ≡ frame_limit)
+IsLimited (Err ReadFault) count = Unit {0}
+IsLimited (Err WriteFault) count = Unit {0}
 
 -- the pieces were read and coded, and their frames were given
 pub record HasEncoded (result : Result ℕ Stop) (input before now : Option (List ℕ)) (pieces frames : List (List ℕ)) : Type 0 where
   pub encoded : IsEncoded pieces frames
-  pub text : IfSome input (Begins pieces (FollowsPieces result (length pieces)))
+  pub text : IfSome input (Begins pieces (FollowsPieces result))
+  pub limited : IsLimited result (length pieces)
   pub given : HasSpeech result before now (coded frames)
   pub counted : IsCounted result (length frames)

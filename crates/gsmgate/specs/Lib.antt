@@ -8,5 +8,7 @@ pub mod Ran
 pub mod Pcm
 pub mod Decode
 pub mod DecodeRuns
+pub mod Encode
+pub mod EncodeRuns
 pub mod Render
 pub mod Commands

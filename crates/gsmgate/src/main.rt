@@ -2,6 +2,7 @@
 #![tactic(auto)]
 
 mod decode;
+mod encode;
 mod notes;
 mod offline;
 mod outside;

@@ -9,6 +9,7 @@ ghost use Rattle.command_line.specs.Lines.{Said, fits, line_of};
 ghost use Rattle.command_line.specs.declared.line.Command.{Command};
 
 use crate::decode::decode;
+use crate::encode::encode;
 use crate::notes::give_usage;
 use crate::render::render;
 use crate::simulate::simulate;
@@ -84,6 +85,7 @@ fn run_command<I: Source, O: Sink, E: Sink>(
     match command {
         Command::Simulate { voice } => simulate(alloc, voice, input, output, notes),
         Command::Decode => decode(input, output, notes),
+        Command::Encode => encode(input, output, notes),
         Command::Render { seed } => render(seed, input, output, notes),
     }
 }
