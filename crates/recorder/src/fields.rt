@@ -11,7 +11,7 @@ use byteorder::{BigEndian, ByteOrder};
 use frame_codec::{Frame33, frame_of};
 
 // Numbers of frames are below this one.
-const NUMBERS: u64 = 1 << 47;
+pub const NUMBERS: u64 = 1 << 47;
 
 // A datagram of a script has no more octets.
 const MOST_OCTETS: u16 = 2048;
