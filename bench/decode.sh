@@ -2,14 +2,8 @@
 # Compares `gsmgate decode` with libgsm, octet for octet, and times both on ten minutes of speech.
 # It wants the program as `rt run` leaves it in crates/gsmgate/out, and Debian's libgsm-tools; espeak-ng and sox for the
 # coded speech. What is missing is skipped, with a line that says so.
-set -u
-top=$(cd "$(dirname "$0")/.." && pwd)
-gateway=$top/crates/gsmgate/out/gsmgate
-work=$(mktemp -d)
-trap 'rm -rf "$work"' EXIT
-
-[ -x "$gateway" ] || { echo "skipped: $gateway is not there; run 'rt run' in crates/gsmgate first"; exit 0; }
-command -v untoast >/dev/null || { echo "skipped: untoast is not there (Debian's libgsm-tools)"; exit 0; }
+. "$(dirname "$0")/common.sh"
+needs untoast libgsm-tools
 
 compare() { # NAME: decodes $work/NAME.gsm with both
   "$gateway" decode "$work/$1.gsm" "$work/$1.ours" >"$work/$1.notes" || { echo "$1: gsmgate failed"; return 1; }
@@ -36,10 +30,7 @@ PY
 failed=0
 compare noise || failed=1
 
-if command -v espeak-ng >/dev/null && command -v sox >/dev/null && command -v toast >/dev/null; then
-  espeak-ng -w "$work/voice.wav" "The quick brown fox jumps over the lazy dog, and the gateway plays each frame once."
-  sox "$work/voice.wav" -r 8000 -c 1 -b 16 -e signed-integer -t raw "$work/voice.pcm" repeat 150
-  head -c 9600000 "$work/voice.pcm" >"$work/ten.pcm"
+if has toast && ten_minutes "$work/ten.pcm"; then
   toast -cl "$work/ten.pcm" >"$work/speech.gsm"
   compare speech || failed=1
 else
@@ -47,14 +38,8 @@ else
   cp "$work/noise.gsm" "$work/speech.gsm"
 fi
 
-# Three runs of each, the best one, in seconds of processor time.
-best() {
-  for _ in 1 2 3; do
-    { TIMEFORMAT=%U; time "$@" >/dev/null; } 2>&1
-  done | sort -n | head -1
-}
 ours=$(best "$gateway" decode "$work/speech.gsm" "$work/out.pcm")
 theirs=$(best untoast -cl "$work/speech.gsm")
 frames=$(($(stat -c %s "$work/speech.gsm") / 33))
-echo "time of $frames frames: gsmgate $ours s, libgsm $theirs s, ratio $(python3 -c "print(round($ours / max($theirs, 0.001), 2))")"
+echo "time of $frames frames: gsmgate $ours s, libgsm $theirs s, ratio $(ratio "$ours" "$theirs")"
 exit $failed

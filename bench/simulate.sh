@@ -1,13 +1,7 @@
 #!/usr/bin/env bash
 # Times `gsmgate simulate` on a script of a million File and a million Tick events, and tries the event limit.
 # It wants the program as `rt run` leaves it in crates/gsmgate/out, and a gigabyte of room in the temporary directory.
-set -u
-top=$(cd "$(dirname "$0")/.." && pwd)
-gateway=$top/crates/gsmgate/out/gsmgate
-work=$(mktemp -d)
-trap 'rm -rf "$work"' EXIT
-
-[ -x "$gateway" ] || { echo "skipped: $gateway is not there; run 'rt run' in crates/gsmgate first"; exit 0; }
+. "$(dirname "$0")/common.sh"
 
 # Each frame is filed, and played by the tick behind it; then 16777216 ticks, with an end mark and with one tick more.
 python3 - "$work" <<'PY'

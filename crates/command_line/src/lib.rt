@@ -6,3 +6,6 @@ mod options;
 mod values;
 
 pub use line::{Command, Line, line_of};
+
+#[cfg(test)]
+mod tests;

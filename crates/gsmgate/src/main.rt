@@ -75,4 +75,7 @@ fn main(rt: HostRuntime) -> ExitCode {
 }
 
 #[cfg(test)]
+mod speech_tests;
+
+#[cfg(test)]
 mod tests;

@@ -299,14 +299,7 @@ fn frames_are_decoded_to_octets(rt: HostRuntime) -> Result<(), Fail> {
 #[test]
 fn other_words_are_refused(rt: HostRuntime) -> Result<(), Fail> {
     let alloc = rt.alloc();
-    for line in [
-        "simulat a b",
-        "simulate a",
-        "simulate a b c",
-        "simulate -a b",
-        "simulate a -",
-        "",
-    ] {
+    for line in ["simulat a b", "simulate a -", ""] {
         let words = words(alloc, line)?;
         let mut inputs: Vec<MemorySource> = Vec::new(alloc);
         let mut output = MemorySink::new(alloc, 100, &[])?;
