@@ -1,5 +1,5 @@
 -- What a filer makes of one datagram: its calls, its outcome and what it knows afterwards, given the replies.
-use Rattle.std.specs.Prelude.{◌≡◌, ℕ, zero, suc, ◌+◌, ◌/◌, ◌==◌, ◌&&◌, ◌||◌, Bool, false, List, [], ◌∷◌, ◌++◌, length, slice_index, nat_le, fold, Option, Some, None, if◌then◌else◌}
+use Rattle.std.specs.Prelude.{◌≡◌, ℕ, zero, suc, ◌+◌, ◌/◌, ◌<◌, ◌^◌, ◌==◌, ◌&&◌, ◌||◌, Bool, false, List, [], ◌∷◌, ◌++◌, length, slice_index, nat_le, fold, Option, Some, None, if◌then◌else◌}
 use Rattle.play_machine.specs.declared.reply.FileReply.{FileReply}
 use Rattle.play_machine.specs.declared.call.Call.{Call}
 use Rattle.play_machine.specs.declared.call.Call.TheVariants.{FileCall, SourceCall, BaseCall}
@@ -166,6 +166,15 @@ HasAllFrames octets (end.RtpRefused f) = Unit {0}
 HasAllFrames octets end.Empty = Unit {0}
 HasAllFrames octets (end.Stranger ssrc held) = Unit {0}
 HasAllFrames octets (end.Filed n replies) = length replies ≡ length octets / 33
+
+-- frames are filed under numbers from below 2 ^ 34 on
+abbrev pub IsNumbered : OutcomeEnd → Type 0
+IsNumbered end.Rtcp = Unit {0}
+IsNumbered (end.RtcpRefused f) = Unit {0}
+IsNumbered (end.RtpRefused f) = Unit {0}
+IsNumbered end.Empty = Unit {0}
+IsNumbered (end.Stranger ssrc held) = Unit {0}
+IsNumbered (end.Filed n replies) = n < 2 ^ 34
 
 -- each datagram counts once by its end, and each reply
 abbrev pub end_counted : Tally → OutcomeEnd → Tally

@@ -5,7 +5,7 @@ ghost use Rattle.play_machine.specs.declared.call.Call.{Call};
 ghost use Rattle.rtp_codec.specs.Grammar.{rtp_fault};
 ghost use Rattle.rtp_codec.specs.Packets.{packet_of};
 ghost use Rattle.rtcp_stats.specs.Compound.{rtcp_fault};
-ghost use Rattle.filer.specs.Takes.{IsTaken, Known, HasAllFrames, admitted, calls_of, is_rtcp, judged, new_filer, read_so, read_rtcp_so, replies_of, told_by};
+ghost use Rattle.filer.specs.Takes.{IsTaken, Known, HasAllFrames, IsNumbered, admitted, calls_of, is_rtcp, judged, new_filer, read_so, read_rtcp_so, replies_of, told_by};
 ghost use Rattle.filer.specs.Runs.{AreTaken};
 ghost use Rattle.filer.specs.declared.outcome.Outcome.{Outcome};
 
@@ -65,6 +65,7 @@ impl Filer {
     pub fn take<S: FilerSide>(&mut self, side: &mut S, datagram: &[u8], at: u32) -> Outcome
         requires { length datagram.now ≤ 2048 }
         ensures taken { IsTaken self.old datagram.now at result self.new }
+        ensures numbered { IsNumbered result.end }
         ensures calls { Chained S.did side.old (calls_of self.old datagram.now at result) side.new }
         ensures goes_on { (k : Known) (first : S) (ds : List (List ℕ × ℕ)) (os : List Outcome) (cs : List Call) → AreTaken k ds os cs self.old → Chained S.did first cs side.old
             → AreTaken k (ds ++ (datagram.now, at) ∷ []) (os ++ result ∷ []) (cs ++ calls_of self.old datagram.now at result) self.new
@@ -85,6 +86,7 @@ impl Filer {
     fn take_one<S: FilerSide>(&mut self, side: &mut S, datagram: &[u8], at: u32) -> Outcome
         requires { length datagram.now ≤ 2048 }
         ensures taken { IsTaken self.old datagram.now at result self.new }
+        ensures numbered { IsNumbered result.end }
         ensures calls { Chained S.did side.old (calls_of self.old datagram.now at result) side.new }
     {
         self.reports.settle();
@@ -98,6 +100,7 @@ impl Filer {
         ensures outcome { result ≡ (judged self.old datagram.now at (replies_of result)).outcome }
         ensures after { self.new ≡ (judged self.old datagram.now at (replies_of result)).after }
         ensures all { HasAllFrames (packet_of datagram.now).payload result.end }
+        ensures numbered { IsNumbered result.end }
         ensures calls { Chained S.did side.old (judged self.old datagram.now at (replies_of result)).calls side.new }
     {
         if is_rtcp(datagram) {
@@ -132,6 +135,7 @@ impl Filer {
         ensures outcome { result ≡ (read_so (rtp_fault datagram.now) self.old (packet_of datagram.now) at (replies_of result)).outcome }
         ensures after { self.new ≡ (read_so (rtp_fault datagram.now) self.old (packet_of datagram.now) at (replies_of result)).after }
         ensures all { HasAllFrames (packet_of datagram.now).payload result.end }
+        ensures numbered { IsNumbered result.end }
         ensures calls { Chained S.did side.old (read_so (rtp_fault datagram.now) self.old (packet_of datagram.now) at (replies_of result)).calls side.new }
     {
         match read_rtp(datagram) {
@@ -146,6 +150,7 @@ impl Filer {
         ensures outcome { result ≡ (admitted self.old view.now at (replies_of result)).outcome }
         ensures after { self.new ≡ (admitted self.old view.now at (replies_of result)).after }
         ensures all { HasAllFrames view.now.payload result.end }
+        ensures numbered { IsNumbered result.end }
         ensures calls { Chained S.did side.old (admitted self.old view.now at (replies_of result)).calls side.new }
     {
         let head = view.head();

@@ -12,6 +12,7 @@ pub use filer::Filer;
 pub use outcome::{Asked, Outcome, OutcomeEnd};
 pub use recorder::Tally;
 pub use replies::Replies;
+pub use tally::count_end;
 
 #[cfg(test)]
 mod tests;

@@ -1,5 +1,5 @@
 -- What each command does.
-use Rattle.std.specs.Prelude.{ℕ, List, Option}
+use Rattle.std.specs.Prelude.{ℕ, List, Option, None}
 use Rattle.gsmgate.specs.declared.words.Command.{Command}
 use Rattle.gsmgate.specs.declared.words.Command.TheVariants.{Simulate, Decode}
 use Rattle.gsmgate.specs.declared.status.Status.{Status}
@@ -9,7 +9,7 @@ use Rattle.gsmgate.specs.Decode as decode
 
 -- what a status says of what passed between the command and its objects
 abbrev pub EndsAs : Command → Status → Exchange → Type 0
-EndsAs Simulate status x = simulate.Ends status x
+EndsAs Simulate status x = simulate.Ends None status x
 EndsAs Decode status x = decode.Ends status x
 
 -- where the input is in its grammar and none of the objects failed, the command comes to its end

@@ -2,10 +2,14 @@
 #![tactic(auto)]
 
 mod decode;
+mod filers;
+mod line;
 mod notes;
 mod offline;
 mod outside;
 mod places;
+mod playback;
+mod refusals;
 mod run;
 mod simulate;
 mod status;
@@ -75,3 +79,5 @@ fn main(rt: HostRuntime) -> ExitCode {
 
 #[cfg(test)]
 mod tests;
+#[cfg(test)]
+mod tests_datagrams;

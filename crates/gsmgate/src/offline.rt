@@ -81,7 +81,7 @@ fn run_command<I: Source, O: Sink, E: Sink>(
     ensures kin { O.kin output.old output.new × E.kin notes.old notes.new }
 {
     match command {
-        Command::Simulate => simulate(alloc, input, output, notes),
+        Command::Simulate => simulate(alloc, None, input, output, notes),
         Command::Decode => decode(input, output, notes),
     }
 }
