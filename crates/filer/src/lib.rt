@@ -18,6 +18,7 @@ pub use outcome::{Asked, Outcome, OutcomeEnd};
 pub use recorder::Tally;
 pub use replies::Replies;
 pub use run::FilerEnd;
+pub use tally::count_end;
 pub use turn::Turn;
 
 #[cfg(test)]

@@ -1,5 +1,5 @@
 // The replies to the frames of a packet.
-ghost use Rattle.std.specs.Prelude.{◌≡◌, ◌<◌, ◌∷◌, ◌++◌, [], length, slice_get, Some};
+ghost use Rattle.std.specs.Prelude.{◌≡◌, ◌<◌, ◌≤◌, ◌∷◌, ◌++◌, [], length, slice_get, Some};
 
 use arrayvec::ArrayVec;
 use play_machine::FileReply;
@@ -44,7 +44,8 @@ impl Replies {
 
     /// How many replies there are.
     pub fn len(&self) -> usize
-        ensures { result ≡ length self.now }
+        ensures count { result ≡ length self.now }
+        ensures few { length self.now ≤ 10 }
     {
         self.kept.len()
     }

@@ -14,7 +14,7 @@ use Rattle.gsmgate.specs.Decode.{BeginsWith, Ends, coded, frame_fault, frame_lim
 use Rattle.gsmgate.specs.DecodeRuns.{HasDecoded}
 use Rattle.gsmgate.specs.Exchange.{Exchange, GainedUnlessFault}
 use Rattle.gsmgate.specs.Notes.{fault_line, frames_line}
-use Rattle.gsmgate.specs.Pcm.{pcm_of}
+use Rattle.substitution.specs.Heard.{sample_octets}
 use Rattle.gsmgate.proofs.Decoding.{no-frame-fault}
 
 -- nothing is said of the octets that follow
@@ -29,7 +29,7 @@ cut x frames samples n ran noted = (
   samples,
   ran.decoded,
   weaker frames (λ rest. rest ≡ []) x.input ran.text,
-  AppendsPart-whole x.output x.output_now (pcm_of samples) ran.given,
+  AppendsPart-whole x.output x.output_now (sample_octets samples) ran.given,
   subst (λ (k : ℕ). AppendsPart x.notes x.notes_now (frames_line k)) ran.counted noted,
 )
 

@@ -2,6 +2,8 @@
 use Rattle.std.proofs.Common.{◌≡◌, ℕ, ◌+◌, ◌*◌, ◌≤◌, ◌<◌, List, [], ◌∷◌, ◌++◌, length, take, drop, Option, Some, None, Ok, Err, refl, sym, ap, subst, ◌∙◌, append_assoc, append-nil, length-append, arith}
 use Rattle.std.specs.Prelude.{ℤ, IfSome}
 use Rattle.std.specs.List.{flat_map, AllByRecursion}
+use Rattle.std.specs.Int.{w16, cast_unsigned}
+use Rattle.byteorder.specs.Endian.{little_bytes}
 use Rattle.std.specs.Io.KnownBytes.{Appends, Consumes, IsAtEnd}
 use Rattle.std.proofs.lemmas.List.{take_at, drop_at}
 use Rattle.std.proofs.lemmas.List.Concat.{flat_map-append}
@@ -15,7 +17,7 @@ use Rattle.recorder.specs.declared.fault.RecordFault.{RecordFault}
 use Rattle.gsmgate.specs.Decode.{AreSpelled, BeginsWith, IsDecoded, coded, frame_fault, frame_limit}
 use Rattle.gsmgate.specs.DecodeRuns.{HasDecoded}
 use Rattle.gsmgate.proofs.FrameFaults.{frame-clear}
-use Rattle.gsmgate.specs.Pcm.{pcm_of, sample_octets}
+use Rattle.substitution.specs.Heard.{sample_octets}
 use Rattle.gsmgate.specs.declared.stop.Stop.TheVariants.{Refused, WriteFault}
 
 -- these frames were read and decoded
@@ -26,7 +28,7 @@ pub record Decoding (count : ℕ) (decoder : Kept) (input left before now : Opti
   pub spelled : AreSpelled frames fields
   pub decodes : Decodes fields samples decoder
   pub taken : Consumes input left (coded frames)
-  pub given : Appends before now (pcm_of samples)
+  pub given : Appends before now (sample_octets samples)
 
 coded-more : (frames : List (List ℕ)) (frame : List ℕ) → coded (frames ++ frame ∷ []) ≡ coded frames ++ frame
 coded-more frames frame = flat_map-append (λ (f : List ℕ). f) frames (frame ∷ []) ∙ ap (λ (l : List ℕ). coded frames ++ l) (append-nil frame)
@@ -50,7 +52,7 @@ module _ (count : ℕ) (decoder decoder' : Kept) (input left left' before given 
   more-taken : Consumes input left' (coded (frames ++ frame ∷ []))
   more-taken = subst (Consumes input left') (sym (coded-more frames frame)) (Consumes-trans input left left' (coded frames) frame s.taken taken)
 
-  pub decoding-more : Appends given given' (pcm_of speech) → Decoding (count + 1) decoder' input left' before given' (frames ++ frame ∷ []) (fields ++ p ∷ []) (samples ++ speech)
+  pub decoding-more : Appends given given' (sample_octets speech) → Decoding (count + 1) decoder' input left' before given' (frames ++ frame ∷ []) (fields ++ p ∷ []) (samples ++ speech)
   decoding-more gave = record {
     whole = whole-more frames frame s.whole is;
     few = more-few;
@@ -58,14 +60,14 @@ module _ (count : ℕ) (decoder decoder' : Kept) (input left left' before given 
     spelled = spelled-more frames fields frame p s.spelled spells within;
     decodes = decodes;
     taken = more-taken;
-    given = subst (Appends before given') (sym (flat_map-append sample_octets samples speech)) (Appends-trans before given given' (pcm_of samples) (pcm_of speech) s.given gave);
+    given = subst (Appends before given') (sym (flat_map-append (λ (x : ℤ). little_bytes 2 (cast_unsigned w16 x)) samples speech)) (Appends-trans before given given' (sample_octets samples) (sample_octets speech) s.given gave);
   }
 
-  pub decoding-broken : AppendsPart given given' (pcm_of speech) → HasDecoded (Err WriteFault) input before given' (frames ++ frame ∷ []) (samples ++ speech)
+  pub decoding-broken : AppendsPart given given' (sample_octets speech) → HasDecoded (Err WriteFault) input before given' (frames ++ frame ∷ []) (samples ++ speech)
   decoding-broken gave = record {
     decoded = record { fields = fields ++ p ∷ []; whole = whole-more frames frame s.whole is; few = more-few; spelled = spelled-more frames fields frame p s.spelled spells within; speech = decodes.speech };
     text = begun input left' (coded (frames ++ frame ∷ [])) more-taken;
-    given = subst (AppendsPart before given') (sym (flat_map-append sample_octets samples speech)) (AppendsPart-after before given given' (pcm_of samples) (pcm_of speech) s.given gave);
+    given = subst (AppendsPart before given') (sym (flat_map-append (λ (x : ℤ). little_bytes 2 (cast_unsigned w16 x)) samples speech)) (AppendsPart-after before given given' (sample_octets samples) (sample_octets speech) s.given gave);
     counted = tt;
   }
     where

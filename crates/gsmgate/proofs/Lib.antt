@@ -1,4 +1,8 @@
+pub mod Steps
+pub mod Counting
+pub mod Replies
 pub mod Events
+pub mod Playbacks
 pub mod Sofar
 pub mod Ends
 pub mod FrameFaults

@@ -1,23 +1,99 @@
--- The calls that the events of a script make.
-use Rattle.std.specs.Prelude.{ℕ, ◌≡◌, ◌<◌, ◌^◌, List, [], ◌∷◌, ◌++◌}
+-- What the events of a script come to: the calls that they make, and the ends of their datagrams.
+use Rattle.std.specs.Prelude.{ℕ, ◌≡◌, ◌-◌, ◌<◌, ◌^◌, List, [], ◌∷◌, ◌++◌, map, replicate, slice_get, slice_set, Bool, true, false, Some, None, ◌⊎◌}
+use Rattle.std.specs.List.{flat_map}
 use Rattle.frame_codec.specs.declared.item.Item.{Item}
 use Rattle.play_machine.specs.declared.reply.FileReply.{FileReply}
-use Rattle.play_machine.specs.declared.call.Call.TheVariants.{FileCall, TickCall}
+use Rattle.play_machine.specs.declared.call.Call.{Call}
+use Rattle.play_machine.specs.declared.call.Call.TheVariants.{FileCall, PeekCall, TickCall}
 use Rattle.play_machine.specs.History.{Entry, entry}
 use Rattle.recorder.specs.declared.events.ScriptEvent.{ScriptEvent}
-use Rattle.recorder.specs.declared.events.ScriptEvent.TheVariants.{Tick, File}
+use Rattle.recorder.specs.declared.events.ScriptEvent.TheVariants.{Tick, File, Datagram, Beat}
+use Rattle.recorder.specs.Heads.{Heading}
+use Rattle.filer.specs.declared.outcome.Outcome.{Outcome}
+use Rattle.filer.specs.declared.outcome.OutcomeEnd.{OutcomeEnd}
+use Rattle.filer.specs.Takes as takes
 
--- the calls of an event, whatever is replied: a Tick is the player's tick, a File is its caller's file
-abbrev pub AreCallsOf : ℕ → ScriptEvent → List Entry → Type 0
-AreCallsOf filers Tick calls = (item : Item) × (calls ≡ entry filers (TickCall item) ∷ [])
-AreCallsOf filers (File caller number frame) calls = (reply : FileReply) × (calls ≡ entry caller (FileCall number frame reply) ∷ [])
+-- what the callers know: each filer, by its caller number, and whether the player has made a tick
+pub record Callers : Type 0 where
+  pub filers : List takes.Known
+  pub ticked : Bool
 
--- the calls of the events, in the events' order
-abbrev pub AreCalls : ℕ → List ScriptEvent → List Entry → Type 0
-AreCalls filers [] history = history ≡ []
-AreCalls filers (e ∷ es) history = (first rest : List Entry) × AreCallsOf filers e first × AreCalls filers es rest × (history ≡ first ++ rest)
+-- how the datagram of a filer ended
+pub record Ended : Type 0 where
+  pub who : ℕ
+  pub end : OutcomeEnd
+
+-- what one event came to: its calls with their replies, and the end of its datagram where it is one
+pub record Turn : Type 0 where
+  pub calls : List Entry
+  pub ends : List Ended
+
+-- a new filer of a script: its own source, and after how many packets a report is due, decide nothing, for no report is sent
+abbrev pub new_filer : ℕ → takes.Known
+new_filer delay = takes.new_filer delay 0 (2 ^ 32 - 1)
+
+-- before any event
+abbrev pub opening_callers : Heading → Callers
+opening_callers h = record { filers = replicate h.filers (new_filer h.delay); ticked = false }
+
+-- calls of one caller, as entries of a history
+abbrev pub made_by : ℕ → List Call → List Entry
+made_by who calls = map (entry who) calls
+
+-- calls that are no datagram's
+abbrev pub bare : List Entry → Turn
+bare calls = record { calls = calls; ends = [] }
+
+-- the player has made a tick
+abbrev pub has_ticked : Callers → Callers
+has_ticked c = record c { ticked = true }
+
+-- the player's tick
+abbrev pub IsTick : ℕ → Callers → Turn → Callers → Type 0
+IsTick player before turn after = (item : Item) × (turn ≡ bare (entry player (TickCall item) ∷ [])) × (after ≡ has_ticked before)
+
+-- The player's beat. Before its first tick it peeks: without a base it is idle, and with one it ticks. From then on it ticks.
+abbrev pub IsBeat : Bool → ℕ → Callers → Turn → Callers → Type 0
+IsBeat true player before turn after = IsTick player before turn after
+IsBeat false player before turn after =
+    ((turn ≡ bare (entry player (PeekCall None) ∷ [])) × (after ≡ before))
+    ⊎ ((base : ℕ) × (item : Item) × (turn ≡ bare (entry player (PeekCall (Some base)) ∷ entry player (TickCall item) ∷ [])) × (after ≡ has_ticked before))
+
+-- The datagram was taken by its caller's filer, as that filer's earlier datagrams left it. It makes that filer's calls.
+pub record IsDatagram (caller at : ℕ) (octets : List ℕ) (before : Callers) (turn : Turn) (after : Callers) : Type 0 where
+  pub outcome : Outcome
+  pub known : takes.Known
+  pub later : takes.Known
+  pub is_known : slice_get before.filers caller ≡ Some known
+  pub taken : takes.IsTaken known octets at outcome later
+  pub made : turn ≡ record { calls = made_by caller (takes.calls_of known octets at outcome); ends = record { who = caller; end = outcome.end } ∷ [] }
+  pub left : after ≡ record before { filers = slice_set before.filers caller later }
+
+-- What an event comes to, whatever is replied. The player's number is that of the filers. A File is its caller's bare call, and changes nothing that its filer knows.
+abbrev pub IsTurn : ℕ → ScriptEvent → Callers → Turn → Callers → Type 0
+IsTurn filers Tick before turn after = IsTick filers before turn after
+IsTurn filers (File caller number frame) before turn after = (reply : FileReply) × (turn ≡ bare (entry caller (FileCall number frame reply) ∷ [])) × (after ≡ before)
+IsTurn filers (Datagram caller at octets) before turn after = IsDatagram caller at octets before turn after
+IsTurn filers Beat before turn after = IsBeat before.ticked filers before turn after
+
+-- what the events come to, in the events' order
+abbrev pub AreTurns : ℕ → Callers → List ScriptEvent → List Turn → Callers → Type 0
+AreTurns filers before [] [] after = after ≡ before
+AreTurns filers before [] (t ∷ ts) after = ⊥
+AreTurns filers before (e ∷ es) [] after = ⊥
+AreTurns filers before (e ∷ es) (t ∷ ts) after = (mid : Callers) × IsTurn filers e before t mid × AreTurns filers mid es ts after
+
+-- the calls of all turns, in their order
+abbrev pub history_of : List Turn → List Entry
+history_of turns = flat_map (λ (t : Turn). t.calls) turns
+
+-- the ends of all datagrams, in their order
+abbrev pub ends_of : List Turn → List Ended
+ends_of turns = flat_map (λ (t : Turn). t.ends) turns
 
 -- a line of so many filers can make the calls of the event
 abbrev pub IsCallable : ℕ → ScriptEvent → Type 0
 IsCallable filers Tick = Unit {0}
 IsCallable filers (File caller number frame) = (caller < filers) × (number < 2 ^ 47)
+IsCallable filers (Datagram caller at octets) = caller < filers
+IsCallable filers Beat = Unit {0}

@@ -8,7 +8,7 @@ use Rattle.recorder.specs.declared.fault.RecordFault.{RecordFault}
 use Rattle.recorder.specs.declared.fault.RecordFault.TheVariants.{Cut, Field, TooLong}
 use Rattle.gsmgate.specs.Exchange.{Exchange, Gave, GavePart, Noted, NotedPart, NotedUnlessFault}
 use Rattle.gsmgate.specs.Notes.{fault_line, frames_line}
-use Rattle.gsmgate.specs.Pcm.{pcm_of}
+use Rattle.substitution.specs.Heard.{sample_octets}
 use Rattle.gsmgate.specs.declared.status.Status.{Status}
 use Rattle.gsmgate.specs.declared.status.Status.TheVariants.{Done, Illegal, Usage, Input, ReadFault, WriteFault, LinkFault, OutOfMemory}
 
@@ -52,25 +52,25 @@ BeginsWith frames P octets = (rest : List ℕ) × (octets ≡ coded frames ++ re
 abbrev pub Decoded : Exchange → Type 0
 Decoded x = (frames : List (List ℕ)) × (samples : List ℤ) × IsDecoded frames samples
     × IfSome x.input (BeginsWith frames (λ rest. rest ≡ []))
-    × Gave x (pcm_of samples) × Noted x (frames_line (length frames))
+    × Gave x (sample_octets samples) × Noted x (frames_line (length frames))
 
 -- behind some frames the input has this fault; the output has the speech of the frames
 abbrev pub Refused : Exchange → Type 0
 Refused x = (f : RecordFault) × (frames : List (List ℕ)) × (samples : List ℤ) × IsDecoded frames samples
     × IfSome x.input (BeginsWith frames (λ rest. frame_fault (length frames) (take 33 rest) ≡ Some f))
-    × Gave x (pcm_of samples) × NotedUnlessFault x (fault_line 0 f)
+    × Gave x (sample_octets samples) × NotedUnlessFault x (fault_line 0 f)
 
 -- a read failed behind some frames
 abbrev pub Stopped : Exchange → Type 0
 Stopped x = (frames : List (List ℕ)) × (samples : List ℤ) × IsDecoded frames samples
     × IfSome x.input (BeginsWith frames (λ rest. Unit {0}))
-    × Gave x (pcm_of samples) × Noted x []
+    × Gave x (sample_octets samples) × Noted x []
 
 -- a give failed: the output and the notes have a front of what some frames would give in the end
 abbrev pub Broken : Exchange → Type 0
 Broken x = (frames : List (List ℕ)) × (samples : List ℤ) × IsDecoded frames samples
     × IfSome x.input (BeginsWith frames (λ rest. Unit {0}))
-    × GavePart x (pcm_of samples) × NotedPart x (frames_line (length frames))
+    × GavePart x (sample_octets samples) × NotedPart x (frames_line (length frames))
 
 -- what each status says
 abbrev pub Ends : Status → Exchange → Type 0

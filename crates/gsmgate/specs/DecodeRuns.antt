@@ -3,7 +3,7 @@ use Rattle.std.specs.Prelude.{ℕ, ◌≡◌, List, [], length, take, ℤ, Optio
 use Rattle.std.specs.Io.KnownBytes.{Appends}
 use Rattle.gate_io.specs.Flow.{AppendsPart}
 use Rattle.gsmgate.specs.Decode.{BeginsWith, IsDecoded, frame_fault}
-use Rattle.gsmgate.specs.Pcm.{pcm_of}
+use Rattle.substitution.specs.Heard.{sample_octets}
 use Rattle.gsmgate.specs.declared.stop.Stop.{Stop}
 use Rattle.gsmgate.specs.declared.stop.Stop.TheVariants.{Refused, ReadFault, WriteFault}
 
@@ -30,5 +30,5 @@ IsCounted (Err stop) count = Unit {0}
 pub record HasDecoded (result : Result ℕ Stop) (input before now : Option (List ℕ)) (frames : List (List ℕ)) (samples : List ℤ) : Type 0 where
   pub decoded : IsDecoded frames samples
   pub text : IfSome input (BeginsWith frames (FollowsFrames result (length frames)))
-  pub given : HasSpeech result before now (pcm_of samples)
+  pub given : HasSpeech result before now (sample_octets samples)
   pub counted : IsCounted result (length frames)

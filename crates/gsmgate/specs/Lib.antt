@@ -1,11 +1,13 @@
 pub mod Places
 pub mod Calls
+pub mod Counts
 pub mod Notes
+pub mod Outcomes
 pub mod Exchange
+pub mod Playing
 pub mod Simulate
 pub mod Applies
 pub mod Ran
-pub mod Pcm
 pub mod Decode
 pub mod DecodeRuns
 pub mod Encode

@@ -10,7 +10,15 @@ use Rattle.recorder.specs.declared.fault.RecordFault.{RecordFault}
 use Rattle.recorder.specs.declared.fault.RecordFault.TheVariants.{Magic, Kind, Cut, Field, TooLong}
 use Rattle.recorder.specs.declared.tally.Tally.{Tally}
 use Rattle.recorder.specs.declared.tally.PlayTally.{PlayTally}
-use Rattle.recorder.specs.Tallies.{call_items, call_replies, play_tally, reply_tally}
+use Rattle.recorder.specs.Tallies.{call_items, call_replies, play_tally}
+use Rattle.rtp_codec.specs.declared.fault.RtpFault.{RtpFault}
+use Rattle.rtp_codec.specs.declared.fault.RtpFault.TheVariants as rtp
+use Rattle.rtcp_stats.specs.declared.fault.RtcpFault.{RtcpFault}
+use Rattle.rtcp_stats.specs.declared.fault.RtcpFault.TheVariants as rtcp
+use Rattle.filer.specs.declared.outcome.OutcomeEnd.{OutcomeEnd}
+use Rattle.filer.specs.declared.outcome.OutcomeEnd.TheVariants as end
+use Rattle.gsmgate.specs.Calls.{Ended, Turn, ends_of, history_of}
+use Rattle.gsmgate.specs.Counts.{run_tally}
 
 abbrev pub newline : List ℕ
 newline = 10 ∷ []
@@ -44,6 +52,48 @@ entry_line e = line_of_call e.who e.call
 abbrev pub history_lines : List Entry → List ℕ
 history_lines history = flat_map entry_line history
 
+-- the words of a refused packet, with the payload type or the frame, counted from 0, that it was refused for
+abbrev pub rtp_words : RtpFault → List ℕ
+rtp_words rtp.Oversize = codes " refused oversize"
+rtp_words rtp.Short = codes " refused short"
+rtp_words rtp.Version = codes " refused version"
+rtp_words rtp.CsrcShort = codes " refused csrc"
+rtp_words rtp.ExtensionShort = codes " refused extension"
+rtp_words rtp.Padding = codes " refused padding"
+rtp_words (rtp.OtherPayload pt) = counted (codes " refused payload ") pt
+rtp_words rtp.Length = codes " refused length"
+rtp_words rtp.TooMany = codes " refused many"
+rtp_words (rtp.Signature i) = counted (codes " refused signature ") i
+
+-- the words of a refused RTCP compound, with the octet where the packet begins that it was refused for
+abbrev pub rtcp_words : RtcpFault → List ℕ
+rtcp_words rtcp.Oversize = codes " refused rtcp oversize"
+rtcp_words (rtcp.Cut at) = counted (codes " refused rtcp cut ") at
+rtcp_words (rtcp.Version at) = counted (codes " refused rtcp version ") at
+rtcp_words rtcp.First = codes " refused rtcp first"
+rtcp_words (rtcp.Padding at) = counted (codes " refused rtcp padding ") at
+rtcp_words (rtcp.Body at) = counted (codes " refused rtcp body ") at
+
+-- a datagram's own line: it was refused, or is of another source than the held one
+abbrev pub own_line : ℕ → OutcomeEnd → List ℕ
+own_line who end.Rtcp = []
+own_line who (end.RtcpRefused f) = decimal who ++ (rtcp_words f ++ newline)
+own_line who (end.RtpRefused f) = decimal who ++ (rtp_words f ++ newline)
+own_line who end.Empty = []
+own_line who (end.Stranger ssrc held) = decimal who ++ (counted (codes " stranger ") ssrc ++ (counted (codes " ") held ++ newline))
+own_line who (end.Filed n replies) = []
+
+abbrev pub end_line : Ended → List ℕ
+end_line e = own_line e.who e.end
+
+-- the lines of an event: of its datagram, and of its calls
+abbrev pub turn_lines : Turn → List ℕ
+turn_lines t = flat_map end_line t.ends ++ history_lines t.calls
+
+-- the lines of the events, in their order
+abbrev pub run_lines : List Turn → List ℕ
+run_lines turns = flat_map turn_lines turns
+
 -- what the beats came to
 abbrev pub play_line : PlayTally → List ℕ
 play_line t = counted (codes "ticks ") t.ticks ++ (counted (codes " frames ") t.frames ++ (counted (codes " erasures ") t.erasures ++ (counted (codes " idle ") t.idle ++ newline)))
@@ -60,10 +110,10 @@ other_words t = counted (codes " refused ") t.refused ++ (counted (codes " stran
 abbrev pub tally_line : List ℕ → Tally → List ℕ
 tally_line whose t = whose ++ (counted (codes " datagrams ") t.datagrams ++ (frame_words t ++ (other_words t ++ newline)))
 
--- the summary of a run: the player's calls, and all replies
-abbrev pub summary : ℕ → List Entry → List ℕ
-summary filers history =
-    play_line (play_tally (flat_map call_items (calls_of filers history))) ++ tally_line (codes "all") (reply_tally (flat_map call_replies (calls history)))
+-- the summary of a run: the player's calls, and all datagrams and replies
+abbrev pub summary : ℕ → List Turn → List ℕ
+summary filers turns =
+    play_line (play_tally (flat_map call_items (calls_of filers (history_of turns)))) ++ tally_line (codes "all") (run_tally (ends_of turns) (flat_map call_replies (calls (history_of turns))))
 
 -- the words of a fault, with its place
 abbrev pub fault_words : RecordFault → List ℕ

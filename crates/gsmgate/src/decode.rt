@@ -10,7 +10,7 @@ ghost use Rattle.recorder.specs.Reader.{Tells};
 ghost use Rattle.gsmgate.specs.Exchange.{Exchange};
 ghost use Rattle.gsmgate.specs.Decode.{Completes, Ends, frame_fault, frame_limit};
 ghost use Rattle.gsmgate.specs.DecodeRuns.{HasDecoded};
-ghost use Rattle.gsmgate.specs.Pcm.{pcm_of};
+ghost use Rattle.substitution.specs.Heard.{sample_octets};
 
 use crate::notes::{give_frames, note_fault};
 use crate::status::Status;
@@ -58,7 +58,7 @@ fn next_frame<I: Source>(count: u32, input: &mut I) -> Result<Option<Frame33>, R
 fn play_frame<O: Sink>(decoder: &mut Decoder, frame: &Frame33, output: &mut O) -> Result<(), Failed>
     ensures played { (p : Fields) × (speech : List ℤ) × Spells frame.now p × IsWithinWidths p
         × ((frames : List Fields) (samples : List ℤ) → Decodes frames samples decoder.old → Decodes (frames ++ p ∷ []) (samples ++ speech) decoder.new)
-        × Gives (O.given output.old) (O.given output.new) result (pcm_of speech) }
+        × Gives (O.given output.old) (O.given output.new) result (sample_octets speech) }
     ensures cause { HasCause (O.faults output.old) (O.faults output.new) result }
     ensures kin { O.kin output.old output.new }
 {

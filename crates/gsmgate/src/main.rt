@@ -3,11 +3,15 @@
 
 mod decode;
 mod encode;
+mod filers;
+mod line;
 mod notes;
 mod offline;
 mod outside;
 mod places;
 mod render;
+mod playback;
+mod refusals;
 mod run;
 mod simulate;
 mod status;
@@ -79,3 +83,5 @@ mod speech_tests;
 
 #[cfg(test)]
 mod tests;
+#[cfg(test)]
+mod tests_datagrams;

@@ -6,72 +6,10 @@ ghost use Rattle.gate_io.specs.Flow.{AppendsPart, Gives};
 ghost use Rattle.gsmgate.specs.Exchange.{GainedUnlessFault};
 ghost use Rattle.gsmgate.specs.Notes.{counted, fault_line, fault_words, frame_words, frames_line, newline, other_words, play_line, reply_line, tally_line, usage_line};
 
-use arrayvec::ArrayString;
+use crate::line::Line;
 use gate_io::{Failed, Sink};
-use itoa::Buffer;
 use play_machine::FileReply;
 use recorder::{PlayTally, RecordFault, Tally};
-use std::marker::Model;
-
-/// A line as it is written. It takes no memory.
-#[derive(Drop)]
-struct Line {
-    text: ArrayString<400>,
-}
-
-impl Model for Line {
-    ghost use Rattle.std.specs.Prelude.{ℕ, List};
-
-    ghost Value = { List ℕ };
-
-    ghost view = { λ l. l.text.bytes };
-}
-
-impl Line {
-    fn new() -> Line
-        ensures { result ≡ [] }
-    {
-        Line {
-            text: ArrayString::new(),
-        }
-    }
-
-    fn words(&mut self, words: &str)
-        requires { length self.old + length words.now ≤ 400 }
-        ensures { self.new ≡ self.old ++ words.now }
-    {
-        self.text.push_str(words);
-    }
-
-    fn number(&mut self, number: u64)
-        requires { length self.old + 20 ≤ 400 }
-        ensures text { self.new ≡ self.old ++ decimal number }
-        ensures short { length self.new ≤ length self.old + 20 }
-    {
-        let mut buffer = Buffer::new();
-        self.text.push_str(buffer.format(number));
-    }
-
-    // A name and its number.
-    fn counted(&mut self, name: &str, number: u64)
-        requires { length self.old + length name.now + 20 ≤ 400 }
-        ensures text { self.new ≡ self.old ++ counted name.now number }
-        ensures short { length self.new ≤ length self.old + length name.now + 20 }
-    {
-        self.words(name);
-        self.number(number);
-    }
-
-    fn give<E: Sink>(mut self, notes: &mut E) -> Result<(), Failed>
-        requires { length self + 1 ≤ 400 }
-        ensures given { Gives (E.given notes.old) (E.given notes.new) result (self ++ newline) }
-        ensures cause { HasCause (E.faults notes.old) (E.faults notes.new) result }
-        ensures kin { E.kin notes.old notes.new }
-    {
-        self.words("\n");
-        notes.give(self.text.as_bytes())
-    }
-}
 
 /// Notes that the words are no line of the program.
 pub fn give_usage<E: Sink>(notes: &mut E) -> Result<(), Failed>

@@ -1,48 +1,53 @@
-// The command `simulate`: a script becomes the player's journal.
-ghost use Rattle.std.specs.Prelude.{◌≡◌, ◌≤◌, ◌⊎◌, ◌++◌, List, codes, Err};
+// The command `simulate`: a script becomes the player's journal, or the speech that is heard.
+ghost use Rattle.std.specs.Prelude.{◌≡◌, ◌≤◌, ◌⊎◌, ◌++◌, List, codes, Err, IfOk};
 ghost use Rattle.gate_base.specs.Faults.{HasCause, Rose};
 ghost use Rattle.gate_io.specs.Flow.{Gives};
-ghost use Rattle.play_machine.specs.History.{Entry};
 ghost use Rattle.recorder.specs.declared.events.ScriptEvent.{ScriptEvent};
+ghost use Rattle.gsmgate.specs.Calls.{Turn, opening_callers};
 ghost use Rattle.gsmgate.specs.Notes.{play_line, tally_line};
 ghost use Rattle.gsmgate.specs.Exchange.{Exchange};
-ghost use Rattle.gsmgate.specs.Ran.{Finishes, IsStarted, Ran};
+ghost use Rattle.gsmgate.specs.Playing.{end_text};
+ghost use Rattle.gsmgate.specs.Ran.{Finishes, IsOpened, IsStarted, Ran};
 ghost use Rattle.gsmgate.specs.Simulate.{Completes, Ends};
 
+use crate::filers::new_filers;
 use crate::notes::{give_plays, give_tally, note_fault};
+use crate::playback::Playback;
 use crate::run::Run;
 use crate::status::Status;
 use crate::stop::Stop;
 use gate_base::OutOfMemory;
 use gate_io::{Failed, Sink, Source};
 use play_machine::MapLine;
-use recorder::{Head, RecordEnd, ScriptReader, write_end, write_play_head};
+use recorder::{Head, RecordEnd, ScriptReader};
 use std::alloc::Global;
 
 // Runs the events of a script to its end mark, its first fault or a fault of the outside.
 fn run_events<I: Source, O: Sink, E: Sink>(
     head: &Head,
     reader: &mut ScriptReader,
-    run: &mut Run,
+    start: Run,
+    playback: &mut Playback,
     input: &mut I,
     output: &mut O,
     notes: &mut E,
-) -> Result<(), Stop>
-    requires { IsStarted head.now reader.old run.old }
-    ensures ran { (events : List ScriptEvent) × (history : List Entry)
-        × Ran head.now run.new (I.left input.old) (O.given output.old) (O.given output.new) (E.given notes.old) (E.given notes.new) result events history }
+) -> Result<Run, Stop>
+    requires { IsStarted head.now reader.old start }
+    ensures ran { (events : List ScriptEvent) × (turns : List Turn)
+        × Ran head.now playback.old playback.new (I.left input.old) (O.given output.old) (O.given output.new) (E.given notes.old) (E.given notes.new) result events turns }
     ensures later { (I.faults input.old ≤ I.faults input.new) × (O.faults output.old ≤ O.faults output.new) × (E.faults notes.old ≤ E.faults notes.new) }
     ensures read { result ≡ Err Stop.ReadFault → Rose (I.faults input.old) (I.faults input.new) }
     ensures write { result ≡ Err Stop.WriteFault → Rose (O.faults output.old) (O.faults output.new) ⊎ Rose (E.faults notes.old) (E.faults notes.new) }
     ensures kin { O.kin output.old output.new × E.kin notes.old notes.new }
 {
+    let mut run = start;
     'events: loop {
         match reader.next(input) {
-            Ok(Some(event)) => match run.apply(&event, output, notes) {
-                Ok(()) => {}
+            Ok(Some(event)) => match run.apply(&event, playback, output, notes) {
+                Ok(next) => run = next,
                 Err(Failed) => return Err(Stop::WriteFault),
             },
-            Ok(None) => return Ok(()),
+            Ok(None) => return Ok(run),
             Err(RecordEnd::Fault(fault)) => return Err(Stop::Refused(fault)),
             Err(RecordEnd::ReadFailed) => return Err(Stop::ReadFault),
         }
@@ -61,14 +66,14 @@ fn summarise<E: Sink>(run: &Run, notes: &mut E) -> Result<(), Failed>
     }
 }
 
-// Gives the journal's end mark and the summary.
-fn finish<O: Sink, E: Sink>(run: &Run, output: &mut O, notes: &mut E) -> Status
-    ensures finishes { Finishes result (O.given output.old) (O.given output.new) (E.given notes.old) (E.given notes.new) (play_line run.now.played ++ tally_line (codes "all") run.now.filed) }
+// Gives the output's end and the summary.
+fn finish<O: Sink, E: Sink>(run: &Run, playback: &Playback, output: &mut O, notes: &mut E) -> Status
+    ensures finishes { Finishes result (O.given output.old) (O.given output.new) (E.given notes.old) (E.given notes.new) (end_text playback.now) (play_line run.now.played ++ tally_line (codes "all") run.now.filed) }
     ensures later { (O.faults output.old ≤ O.faults output.new) × (E.faults notes.old ≤ E.faults notes.new) }
     ensures write { result ≡ Status.WriteFault → Rose (O.faults output.old) (O.faults output.new) ⊎ Rose (E.faults notes.old) (E.faults notes.new) }
     ensures kin { O.kin output.old output.new × E.kin notes.old notes.new }
 {
-    match write_end(output) {
+    match playback.end(output) {
         Ok(()) => match summarise(run, notes) {
             Ok(()) => Status::Done,
             Err(Failed) => Status::WriteFault,
@@ -77,13 +82,30 @@ fn finish<O: Sink, E: Sink>(run: &Run, output: &mut O, notes: &mut E) -> Status
     }
 }
 
-/// Runs a script over the playout machine, in the script's own order: the output gets the player's journal,
-/// and the notes the replies that are not Accepted and a summary.
+// A run before its first event: all the memory that a script wants.
+fn open_run(alloc: Global, head: &Head) -> Result<Run, OutOfMemory>
+    ensures { IfOk result (IsOpened head.now) }
+{
+    let line = match MapLine::new(alloc, head.filers as u32, head.g as u32) {
+        Ok(line) => line,
+        Err(OutOfMemory) => return Err(OutOfMemory),
+    };
+    match new_filers(alloc, head.filers, head.delay) {
+        Ok(filers) => Ok(Run::new(line, filers)),
+        Err(OutOfMemory) => Err(OutOfMemory),
+    }
+}
+
+/// Runs a script over the playout machine, in the script's own order. The output gets the player's journal, or
+/// with the seed of a voice the speech that is heard: 320 octets for each beat and each tick, which are 160
+/// samples of 16 bits at 8 kHz, the low octet first. The notes get the datagrams that were refused, the replies
+/// that are not Accepted, and a summary.
 ///
-/// Memory is wanted once, behind the script's head and before anything is given. A fault ends the run there,
+/// Memory is wanted behind the script's head alone, before anything is given. A fault ends the run there,
 /// and what was given stays.
 pub fn simulate<I: Source, O: Sink, E: Sink>(
     alloc: Global,
+    voice: Option<[u8; 32]>,
     input: &mut I,
     output: &mut O,
     notes: &mut E,
@@ -96,7 +118,7 @@ pub fn simulate<I: Source, O: Sink, E: Sink>(
       notes_now = E.given notes.new;
       noted = E.faults notes.old;
       noted_now = E.faults notes.new;
-    } in Ends result x }
+    } in Ends voice result x }
     ensures later { (I.faults input.old ≤ I.faults input.new) × (O.faults output.old ≤ O.faults output.new) × (E.faults notes.old ≤ E.faults notes.new) }
     ensures read { result ≡ Status.ReadFault → Rose (I.faults input.old) (I.faults input.new) }
     ensures write { result ≡ Status.WriteFault → Rose (O.faults output.old) (O.faults output.new) ⊎ Rose (E.faults notes.old) (E.faults notes.new) }
@@ -112,16 +134,17 @@ pub fn simulate<I: Source, O: Sink, E: Sink>(
         }
         Err(RecordEnd::ReadFailed) => return Status::ReadFault,
     };
-    let mut run = match MapLine::new(alloc, head.filers as u32, head.g as u32) {
-        Ok(line) => Run::new(line),
+    let run = match open_run(alloc, &head) {
+        Ok(run) => run,
         Err(OutOfMemory) => return Status::OutOfMemory,
     };
-    match write_play_head(&head, output) {
+    let mut playback = Playback::new(voice);
+    match playback.front(&head, output) {
         Ok(()) => {}
         Err(Failed) => return Status::WriteFault,
     }
-    match run_events(&head, &mut reader, &mut run, input, output, notes) {
-        Ok(()) => finish(&run, output, notes),
+    match run_events(&head, &mut reader, run, &mut playback, input, output, notes) {
+        Ok(last) => finish(&last, &playback, output, notes),
         Err(Stop::Refused(fault)) => {
             note_fault(fault, notes);
             Status::Input

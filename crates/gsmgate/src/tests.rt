@@ -11,9 +11,9 @@ use std::test::Fail;
 const START: u64 = 4294967296;
 
 // A frame of 160 coded zeros, and the silence frame, behind their first five octets.
-const ZEROS: [u8; 5] = [0xD8, 0x20, 0xA2, 0xE1, 0x5A];
+pub const ZEROS: [u8; 5] = [0xD8, 0x20, 0xA2, 0xE1, 0x5A];
 
-const ZERO_PART: [u8; 7] = [0x50, 0x00, 0x49, 0x24, 0x92, 0x49, 0x24];
+pub const ZERO_PART: [u8; 7] = [0x50, 0x00, 0x49, 0x24, 0x92, 0x49, 0x24];
 
 const SILENCE: [u8; 5] = [0xDA, 0xA7, 0xAA, 0xA5, 0x1A];
 
@@ -25,8 +25,8 @@ all datagrams 0 accepted 0 duplicate 0 late 0 beyond 0 refused 0 stranger 0 rtcp
 
 // What a script's file has so far.
 #[derive(Drop)]
-struct Text {
-    octets: Vec<u8>,
+pub struct Text {
+    pub octets: Vec<u8>,
 }
 
 impl Text {
@@ -36,11 +36,11 @@ impl Text {
         Ok(Text { octets })
     }
 
-    fn put(&mut self, octets: &[u8]) -> Result<(), AllocError> {
+    pub fn put(&mut self, octets: &[u8]) -> Result<(), AllocError> {
         self.octets.extend_from_slice(octets)
     }
 
-    fn frame(&mut self, front: &[u8; 5], part: &[u8; 7]) -> Result<(), AllocError> {
+    pub fn frame(&mut self, front: &[u8; 5], part: &[u8; 7]) -> Result<(), AllocError> {
         self.put(front)?;
         for _ in 0..4 {
             self.put(part)?;
@@ -59,11 +59,11 @@ impl Text {
     }
 }
 
-fn script(alloc: Global, filers: u8, g: u8, delay: u8) -> Result<Text, AllocError> {
+pub fn script(alloc: Global, filers: u8, g: u8, delay: u8) -> Result<Text, AllocError> {
     Text::new(alloc, b"GSMGSC01", filers, g, delay)
 }
 
-fn journal(alloc: Global, filers: u8, g: u8, delay: u8) -> Result<Text, AllocError> {
+pub fn journal(alloc: Global, filers: u8, g: u8, delay: u8) -> Result<Text, AllocError> {
     Text::new(alloc, b"GSMGPJ01", filers, g, delay)
 }
 
@@ -78,13 +78,13 @@ fn words(alloc: Global, line: &str) -> Result<Vec<String>, AllocError> {
 
 // How a run ended, with what it gave.
 #[derive(Drop)]
-struct Ended {
-    status: Status,
-    output: MemorySink,
-    notes: MemorySink,
+pub struct Ended {
+    pub status: Status,
+    pub output: MemorySink,
+    pub notes: MemorySink,
 }
 
-fn run_over(
+pub fn run_over(
     alloc: Global,
     line: &str,
     octets: &[u8],
@@ -107,7 +107,7 @@ fn run_over(
     })
 }
 
-fn simulated(
+pub fn simulated(
     alloc: Global,
     octets: &[u8],
     piece: usize,

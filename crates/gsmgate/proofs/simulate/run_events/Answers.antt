@@ -1,10 +1,12 @@
-use Rattle.std.proofs.Common.{◌≡◌, ◌≤◌, ◌+◌, ℕ, ◌∷◌, [], ◌++◌, sym, ap, subst, inl, inr, arith}
+use Rattle.std.proofs.Common.{◌≡◌, ◌≤◌, ◌+◌, ℕ, ◌∷◌, [], ◌++◌, sym, ap, subst, ◌∙◌, inl, inr, arith}
 use Rattle.std.specs.Prelude.{◌⊎◌}
 use Rattle.gate_base.specs.Faults.{Rose}
 use Rattle.play_machine.specs.Line.{Line}
 use Rattle.recorder.specs.Reader.{Progress}
 use Rattle.gsmgate.specs.Calls.{IsCallable}
-use Rattle.gsmgate.proofs.Sofar.{sofar-more, broken, refused, callable}
+use Rattle.gsmgate.specs.Applies.{Applies}
+use Rattle.gsmgate.specs.declared.run.Run.{Run}
+use Rattle.gsmgate.proofs.Sofar.{sofar-more, sofar-none, broken, refused, callable}
 use Rattle.gsmgate.proofs.simulate.run_events.Goals as goal
 
 pub apply-requires-clause-callable : goal.apply-requires-clause-callable
@@ -22,6 +24,23 @@ events-smaller g c =
     let count : c.next.new.self.count ≡ c.events.reader.count + 1 = ap (λ (r : Progress). r.count) (all.state s.over) in
     omega (arith, count, fits.1)
 
+pub events-init : goal.events-init
+events-init g c =
+    let left = g.I.Source.left c.args.input.now in
+    record {
+      sofar = ([], [], sofar-none c.args.head.now c.args.playback.now c.args.reader.now c.args.start left (g.O.Sink.given c.args.output.now) (g.E.Sink.given c.args.notes.now) c.requires);
+      read = omega arith;
+      written = omega arith;
+      counted = omega arith;
+      output_kin = g.met.O.Sink.kin_same c.args.output.now;
+      notes_kin = g.met.E.Sink.kin_same c.args.notes.now;
+    }
+
+pub apply-requires-clause-filers : goal.apply-requires-clause-filers
+apply-requires-clause-filers g c =
+    let s = c.events.invariant.sofar.2 in
+    s.filers ∙ sym (ap (λ (l : Line). l.filers) s.line)
+
 pub events-preserved : goal.events-preserved
 events-preserved g c =
     let s = c.events.invariant.sofar.2 in
@@ -32,13 +51,14 @@ events-preserved g c =
     let given = g.O.Sink.given in
     let noted = g.E.Sink.given in
     let done = c.in-Ok.ensures.applied in
+    let applies = subst (λ (r : Run). Applies e c.events.run r done.1) (sym done.4) done.3 in
     record {
       sofar = (
         c.events.invariant.sofar.0 ++ e ∷ [],
-        c.events.invariant.sofar.1 ++ done.0,
-        sofar-more c.args.head.now c.events.reader c.next.new.self c.events.run c.apply.new.self (left c.args.input.now) (left c.events.input) (left c.next.new.source)
+        c.events.invariant.sofar.1 ++ done.1 ∷ [],
+        sofar-more c.args.head.now c.args.playback.now c.events.playback c.apply.new.playback c.events.reader c.next.new.self c.events.run c.in-Ok.next (left c.args.input.now) (left c.events.input) (left c.next.new.source)
             (given c.args.output.now) (given c.events.output) (given c.apply.new.output) (noted c.args.notes.now) (noted c.events.notes) (noted c.apply.new.notes)
-            c.events.invariant.sofar.0 c.events.invariant.sofar.1 e done.0 s fits.0 fits.1 (all.text s.over) done.1 (all.state s.over) done.2 done.3,
+            c.events.invariant.sofar.0 c.events.invariant.sofar.1 e done.1 done.2 s fits.0 fits.1 (all.text s.over) applies done.5 (all.state s.over) done.6 done.7,
       );
       read = omega (arith, c.events.invariant.read, c.next.ensures.later);
       written = omega (arith, c.events.invariant.written, c.apply.ensures.later.0);
@@ -58,10 +78,10 @@ returns-in-Err-clause-ran g c =
     let noted = g.E.Sink.given in
     let done = c.in-Err.ensures.applied in (
       c.events.invariant.sofar.0 ++ e ∷ [],
-      c.events.invariant.sofar.1 ++ done.0,
-      broken c.args.head.now c.events.reader c.next.new.self c.events.run c.apply.new.self (left c.args.input.now) (left c.events.input) (left c.next.new.source)
+      c.events.invariant.sofar.1 ++ done.1 ∷ [],
+      broken c.args.head.now c.args.playback.now c.events.playback c.apply.new.playback c.events.reader c.next.new.self c.events.run done.0 (left c.args.input.now) (left c.events.input) (left c.next.new.source)
           (given c.args.output.now) (given c.events.output) (given c.apply.new.output) (noted c.args.notes.now) (noted c.events.notes) (noted c.apply.new.notes)
-          c.events.invariant.sofar.0 c.events.invariant.sofar.1 e done.0 s fits.0 fits.1 (all.text s.over) done.1 done.2 done.3,
+          c.events.invariant.sofar.0 c.events.invariant.sofar.1 e done.1 done.2 s fits.0 fits.1 (all.text s.over) done.3 done.5 done.6 done.7,
     )
 
 -- a count that rose since some moment rose since an earlier one
@@ -85,4 +105,4 @@ pub returns-in-Err-Fault-clause-ran : goal.returns-in-Err-Fault-clause-ran
 returns-in-Err-Fault-clause-ran g c =
     let s = c.events.invariant.sofar.2 in
     let all = rw c.in-Err-Fault.field-0-is at c.in-Err-Fault.ensures in
-    (c.events.invariant.sofar.0, c.events.invariant.sofar.1, refused c.args.head.now c.events.reader c.events.run _ _ _ _ _ _ _ _ c.in-Err-Fault.fault s (all.fault c.args.head.now s.head s.over))
+    (c.events.invariant.sofar.0, c.events.invariant.sofar.1, refused c.args.head.now c.args.playback.now c.events.playback c.events.reader c.events.run _ _ _ _ _ _ _ _ c.in-Err-Fault.fault s (all.fault c.args.head.now s.head s.over))

@@ -1,6 +1,6 @@
 use Rattle.std.proofs.Common.{◌≤◌, ◌-◌, List}
-use Rattle.play_machine.specs.History.{Entry}
 use Rattle.recorder.specs.declared.events.ScriptEvent.{ScriptEvent}
+use Rattle.gsmgate.specs.Calls.{Turn}
 use Rattle.gsmgate.proofs.Sofar.{Sofar}
 use Rattle.gsmgate.proofs.simulate.run_events.Given as goal
 
@@ -10,8 +10,8 @@ invariant-events g l =
     let given = g.O.Sink.given in
     let noted = g.E.Sink.given in
     record {
-      sofar : (events : List ScriptEvent) × (history : List Entry)
-          × Sofar l.head l.reader l.run (left l.fn.input) (left l.input) (given l.fn.output) (given l.output) (noted l.fn.notes) (noted l.notes) events history;
+      sofar : (events : List ScriptEvent) × (turns : List Turn)
+          × Sofar l.head l.fn.playback l.playback l.reader l.run (left l.fn.input) (left l.input) (given l.fn.output) (given l.output) (noted l.fn.notes) (noted l.notes) events turns;
       read : g.I.Source.faults l.fn.input ≤ g.I.Source.faults l.input;
       written : g.O.Sink.faults l.fn.output ≤ g.O.Sink.faults l.output;
       counted : g.E.Sink.faults l.fn.notes ≤ g.E.Sink.faults l.notes;

@@ -1,23 +1,44 @@
-use Rattle.std.proofs.Common.{List, [], ◌∷◌, refl, ap, append-nil, sym, subst, ℕ}
-use Rattle.std.specs.List.{flat_map}
-use Rattle.gate_io.specs.Flow.{Gives}
-use Rattle.play_machine.specs.declared.call.Call.{Call}
-use Rattle.play_machine.specs.declared.call.Call.TheVariants.{FileCall}
+use Rattle.std.proofs.Common.{List, ℕ, [], ◌∷◌, Some, None, true, false, refl, sym, subst, append-nil}
+use Rattle.std.specs.Io.KnownBytes.{Appends}
+use Rattle.gate_io.specs.Flow.{AppendsPart}
+use Rattle.frame_codec.specs.declared.item.Item.TheVariants.{Idle}
+use Rattle.play_machine.specs.declared.call.Call.TheVariants.{FileCall, PeekCall, TickCall}
 use Rattle.play_machine.specs.History.{entry}
-use Rattle.recorder.specs.Play.{call_text}
+use Rattle.gsmgate.specs.Calls.{bare}
 use Rattle.gsmgate.specs.Notes.{reply_line}
-use Rattle.gsmgate.proofs.Events.{calls_of-other, file_applies}
+use Rattle.gsmgate.specs.declared.run.Run.{Run}
+use Rattle.gsmgate.proofs.Events.{calls_of-other, file_applies, first_applies, idle_applies, tick_applies}
+use Rattle.gsmgate.proofs.Playbacks.{call-goes-on, first-goes-on}
 use Rattle.gsmgate.proofs.run.Run.file.Goals as goal
 
-pub returns-clause-applied : goal.returns-clause-applied
-returns-clause-applied g c =
-    let old = c.args.self.now in
+pub returns-in-Ok-clause-applied : goal.returns-in-Ok-clause-applied
+returns-in-Ok-clause-applied g c =
+    let old = c.args.self in
     let number = c.args.number in
     let frame = c.args.frame.now in
     let reply = c.file-reply.result in
-    let given = g.E.Sink.given in (
-      entry c.args.caller (FileCall number frame reply) ∷ [],
-      file_applies old (record { line = c.file-reply.new.self; played = old.played; filed = c.reply.new.self }) c.args.caller number frame reply c.requires.caller (c.file-reply.ensures.reply, c.file-reply.ensures.after) refl c.reply.ensures,
-      ap (flat_map call_text) (calls_of-other old.line.filers c.args.caller (FileCall number frame reply) c.requires.caller),
-      subst (λ (l : List ℕ). Gives (given c.args.notes.now) (given c.give_reply.new.notes) c.give_reply.result l) (sym (append-nil (reply_line c.args.caller number reply))) c.give_reply.ensures.given,
+    let given = g.E.Sink.given in
+    let new : Run = record { line = c.file-reply.new.self; filers = old.filers; ticked = old.ticked; played = old.played; filed = c.reply.new.self } in (
+      new,
+      bare (entry c.args.caller (FileCall number frame reply) ∷ []),
+      file_applies old new c.args.caller number frame reply c.requires.caller (c.file-reply.ensures.reply, c.file-reply.ensures.after) refl refl refl c.reply.ensures,
+      refl,
+      calls_of-other old.line.filers c.args.caller (FileCall number frame reply) c.requires.caller,
+      subst (λ (l : List ℕ). Appends (given c.args.notes.now) (given c.give_reply.new.notes) l) (sym (append-nil (reply_line c.args.caller number reply))) c.in-Ok.ensures.given,
+    )
+
+pub returns-in-Err-clause-applied : goal.returns-in-Err-clause-applied
+returns-in-Err-clause-applied g c =
+    let old = c.args.self in
+    let number = c.args.number in
+    let frame = c.args.frame.now in
+    let reply = c.file-reply.result in
+    let given = g.E.Sink.given in
+    let new : Run = record { line = c.file-reply.new.self; filers = old.filers; ticked = old.ticked; played = old.played; filed = c.reply.new.self } in (
+      new,
+      bare (entry c.args.caller (FileCall number frame reply) ∷ []),
+      file_applies old new c.args.caller number frame reply c.requires.caller (c.file-reply.ensures.reply, c.file-reply.ensures.after) refl refl refl c.reply.ensures,
+      tt,
+      calls_of-other old.line.filers c.args.caller (FileCall number frame reply) c.requires.caller,
+      subst (λ (l : List ℕ). AppendsPart (given c.args.notes.now) (given c.give_reply.new.notes) l) (sym (append-nil (reply_line c.args.caller number reply))) c.in-Err.ensures.given,
     )

@@ -1,23 +1,44 @@
-use Rattle.std.proofs.Common.{ℕ, List, [], ◌∷◌, refl, sym, subst, append-nil}
-use Rattle.std.specs.List.{flat_map}
-use Rattle.gate_io.specs.Flow.{Gives}
-use Rattle.play_machine.specs.declared.call.Call.{Call}
-use Rattle.play_machine.specs.declared.call.Call.TheVariants.{TickCall}
+use Rattle.std.proofs.Common.{List, ℕ, [], ◌∷◌, Some, None, true, false, refl, sym, subst, append-nil}
+use Rattle.std.specs.Io.KnownBytes.{Appends}
+use Rattle.gate_io.specs.Flow.{AppendsPart}
+use Rattle.frame_codec.specs.declared.item.Item.TheVariants.{Idle}
+use Rattle.play_machine.specs.declared.call.Call.TheVariants.{FileCall, PeekCall, TickCall}
 use Rattle.play_machine.specs.History.{entry}
-use Rattle.recorder.specs.Play.{call_text, event_of_item, play_event_text}
-use Rattle.recorder.specs.declared.events.PlayEvent.{PlayEvent}
-use Rattle.gsmgate.proofs.Events.{calls_of-own, tick_applies}
+use Rattle.gsmgate.specs.Calls.{bare}
+use Rattle.gsmgate.specs.Notes.{reply_line}
+use Rattle.gsmgate.specs.declared.run.Run.{Run}
+use Rattle.gsmgate.proofs.Events.{calls_of-other, file_applies, first_applies, idle_applies, tick_applies}
+use Rattle.gsmgate.proofs.Playbacks.{call-goes-on, first-goes-on}
 use Rattle.gsmgate.proofs.run.Run.tick.Goals as goal
 
-pub returns-clause-applied : goal.returns-clause-applied
-returns-clause-applied g c =
-    let old = c.args.self.now in
+pub returns-in-Ok-clause-applied : goal.returns-in-Ok-clause-applied
+returns-in-Ok-clause-applied g c =
+    let old = c.args.self in
     let item = c.tick-item.result in
-    let given = g.O.Sink.given in
-    let gives = subst (λ (e : PlayEvent). Gives (given c.args.output.now) (given c.write_play.new.sink) c.write_play.result (play_event_text e)) c.play_event_of.ensures c.write_play.ensures.given in (
-      entry old.line.filers (TickCall item) ∷ [],
-      tick_applies old (record { line = c.tick-item.new.self; played = c.item.new.self; filed = old.filed }) item c.tick-item.ensures.step c.item.ensures refl,
-      subst (λ (cs : List Call). Gives (given c.args.output.now) (given c.write_play.new.sink) c.write_play.result (flat_map call_text cs)) (sym (calls_of-own old.line.filers (TickCall item)))
-          (subst (λ (l : List ℕ). Gives (given c.args.output.now) (given c.write_play.new.sink) c.write_play.result l) (sym (append-nil (play_event_text (event_of_item item)))) gives),
+    let new : Run = record { line = c.tick-item.new.self; filers = old.filers; ticked = true; played = c.item.new.self; filed = old.filed } in
+    let played = c.in-Ok.ensures.played in (
+      new,
+      bare (entry old.line.filers (TickCall item) ∷ []),
+      played.0,
+      tick_applies old new item c.tick-item.ensures.step refl refl c.item.ensures refl,
+      refl,
+      call-goes-on old.line.filers (TickCall item) item c.args.playback.now c.item-2.new.self played.0 refl played.1,
+      played.2,
+      refl,
+    )
+
+pub returns-in-Err-clause-applied : goal.returns-in-Err-clause-applied
+returns-in-Err-clause-applied g c =
+    let old = c.args.self in
+    let item = c.tick-item.result in
+    let new : Run = record { line = c.tick-item.new.self; filers = old.filers; ticked = true; played = c.item.new.self; filed = old.filed } in
+    let played = c.in-Err.ensures.played in (
+      new,
+      bare (entry old.line.filers (TickCall item) ∷ []),
+      played.0,
+      tick_applies old new item c.tick-item.ensures.step refl refl c.item.ensures refl,
+      tt,
+      call-goes-on old.line.filers (TickCall item) item c.args.playback.now c.item-2.new.self played.0 refl played.1,
+      played.2,
       refl,
     )
