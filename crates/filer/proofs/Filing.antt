@@ -8,6 +8,7 @@ use Rattle.play_machine.specs.History.{Chained, ReplyFits}
 use Rattle.filer.proofs.Chains.{chained-append, chained-one}
 use Rattle.rtp_codec.specs.Packets.{frame_at}
 use Rattle.recorder.specs.Tallies.{is_accepted}
+use Rattle.filer.specs.Journals.{RepliesFit}
 use Rattle.filer.specs.Takes.{any_accepted, file_calls, frames_from}
 
 -- the first i frames were filed
@@ -17,6 +18,7 @@ pub record Filing {S : Type 0} (did : S → Call → S → Type 0) (side now : S
   pub told : any ≡ any_accepted replies
   pub low : any ≡ true → 2 ^ 32 - 16 ≤ first
   pub high : any ≡ true → first < 2 ^ 33 + 2048
+  pub fits : RepliesFit first replies
 
 frames-more : (i n : ℕ) (octets : List ℕ) → frames_from i (suc n) octets ≡ frames_from i n octets ++ frame_at octets (i + n) ∷ []
 frames-more i zero octets = ap (λ k. frame_at octets k ∷ []) (omega arith)
@@ -61,8 +63,15 @@ high-of false Duplicate first i fits high e = cc
 high-of false (Late a) first i fits high e = cc
 high-of false (Beyond a) first i fits high e = cc
 
+-- a reply more that fits its number
+fits-more : (n : ℕ) (rs : List FileReply) (r : FileReply) → RepliesFit n rs → ReplyFits (n + length rs) r → RepliesFit n (rs ++ r ∷ [])
+fits-more n [] r h f = let e : n + 0 ≡ n = omega arith in (subst (λ (k : ℕ). ReplyFits k r) e f, tt)
+fits-more n (x ∷ rs) r h f =
+    let e : n + suc (length rs) ≡ suc n + length rs = omega arith in
+    (h.0, fits-more (suc n) rs r h.1 (subst (λ (k : ℕ). ReplyFits k r) e f))
+
 pub filing-none : {S : Type 0} (did : S → Call → S → Type 0) (side : S) (first : ℕ) (octets : List ℕ) → Filing did side side first octets 0 [] false
-filing-none did side first octets = record { calls = refl; count = refl; told = refl; low = λ e. cc; high = λ e. cc }
+filing-none did side first octets = record { calls = refl; count = refl; told = refl; low = λ e. cc; high = λ e. cc; fits = tt }
 
 pub filing-more : {S : Type 0} (did : S → Call → S → Type 0) (side now next : S) (first : ℕ) (octets : List ℕ) (i : ℕ) (replies : List FileReply) (any : Bool) (r : FileReply)
     → Filing did side now first octets i replies any → i < 10 → did now (FileCall (first + i) (frame_at octets i) r) next → ReplyFits (first + i) r
@@ -80,4 +89,5 @@ filing-more did side now next first octets i replies any r h few did_it fits =
       told = ap (λ (b : Bool). b || is_accepted r) h.told ∙ sym (any-more replies r);
       low = low-of any r first i few fits h.low;
       high = high-of any r first i fits h.high;
+      fits = fits-more first replies r h.fits (subst (λ (k : ℕ). ReplyFits (first + k) r) (sym h.count) fits);
     }

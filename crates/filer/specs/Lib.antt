@@ -1,3 +1,5 @@
+pub mod Journals
 pub mod Reporting
-pub mod Takes
 pub mod Runs
+pub mod Takes
+pub mod Turns

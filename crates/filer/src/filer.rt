@@ -1,11 +1,13 @@
 // What one filer knows, and what it makes of a datagram.
-ghost use Rattle.std.specs.Prelude.{◌≡◌, ◌≤◌, ◌++◌, ◌∷◌, [], List, ℕ, Some, None, length};
+ghost use Rattle.std.specs.Prelude.{◌≡◌, ◌≤◌, ◌<◌, ◌^◌, ◌++◌, ◌∷◌, [], List, ℕ, Some, None, IfSome, false, true, length};
 ghost use Rattle.play_machine.specs.History.{Chained};
 ghost use Rattle.play_machine.specs.declared.call.Call.{Call};
 ghost use Rattle.rtp_codec.specs.Grammar.{rtp_fault};
 ghost use Rattle.rtp_codec.specs.Packets.{packet_of};
 ghost use Rattle.rtcp_stats.specs.Compound.{rtcp_fault};
+ghost use Rattle.rtcp_stats.specs.Writing.{FitsLost};
 ghost use Rattle.filer.specs.Takes.{IsTaken, Known, HasAllFrames, admitted, calls_of, is_rtcp, judged, new_filer, read_so, read_rtcp_so, replies_of, told_by};
+ghost use Rattle.filer.specs.Journals.{EndFits, is_filed};
 ghost use Rattle.filer.specs.Runs.{AreTaken};
 ghost use Rattle.filer.specs.declared.outcome.Outcome.{Outcome};
 
@@ -15,7 +17,7 @@ use crate::reporting::Reporting;
 use crate::tally::count_end;
 use play_machine::FilerSide;
 use recorder::Tally;
-use rtcp_stats::{SenderInfo, read_rtcp};
+use rtcp_stats::{ReportBlock, SenderInfo, read_rtcp};
 use rtp_codec::{RtpView, read_rtp};
 use std::marker::Model;
 use unwrap_ts::Unwrapper;
@@ -66,11 +68,27 @@ impl Filer {
         requires { length datagram.now ≤ 2048 }
         ensures taken { IsTaken self.old datagram.now at result self.new }
         ensures calls { Chained S.did side.old (calls_of self.old datagram.now at result) side.new }
+        ensures fits { EndFits result.end }
         ensures goes_on { (k : Known) (first : S) (ds : List (List ℕ × ℕ)) (os : List Outcome) (cs : List Call) → AreTaken k ds os cs self.old → Chained S.did first cs side.old
             → AreTaken k (ds ++ (datagram.now, at) ∷ []) (os ++ result ∷ []) (cs ++ calls_of self.old datagram.now at result) self.new
             × Chained S.did first (cs ++ calls_of self.old datagram.now at result) side.new }
     {
         self.take_one(side, datagram, at)
+    }
+
+    /// The filer's own source.
+    pub(crate) fn own(&self) -> u32
+        ensures { result ≡ self.now.own }
+    {
+        self.own
+    }
+
+    /// The report that the last datagram made due.
+    pub(crate) fn due(&self) -> Option<ReportBlock>
+        ensures due { result ≡ self.now.reports.due }
+        ensures fits { IfSome result (λ b. FitsLost b.lost) }
+    {
+        self.reports.due()
     }
 
     /// How many datagrams were taken, and what came of them.
@@ -82,10 +100,17 @@ impl Filer {
 }
 
 impl Filer {
-    fn take_one<S: FilerSide>(&mut self, side: &mut S, datagram: &[u8], at: u32) -> Outcome
+    pub(crate) fn take_one<S: FilerSide>(
+        &mut self,
+        side: &mut S,
+        datagram: &[u8],
+        at: u32,
+    ) -> Outcome
         requires { length datagram.now ≤ 2048 }
         ensures taken { IsTaken self.old datagram.now at result self.new }
         ensures calls { Chained S.did side.old (calls_of self.old datagram.now at result) side.new }
+        ensures fits { EndFits result.end }
+        ensures read { is_filed result.end ≡ true → rtp_fault datagram.now ≡ None }
     {
         self.reports.settle();
         let outcome = self.judge(side, datagram, at);
@@ -95,10 +120,13 @@ impl Filer {
 
     /// Takes a datagram by the first case that holds.
     fn judge<S: FilerSide>(&mut self, side: &mut S, datagram: &[u8], at: u32) -> Outcome
+        requires { length datagram.now ≤ 2048 }
         ensures outcome { result ≡ (judged self.old datagram.now at (replies_of result)).outcome }
         ensures after { self.new ≡ (judged self.old datagram.now at (replies_of result)).after }
         ensures all { HasAllFrames (packet_of datagram.now).payload result.end }
         ensures calls { Chained S.did side.old (judged self.old datagram.now at (replies_of result)).calls side.new }
+        ensures fits { EndFits result.end }
+        ensures read { is_filed result.end ≡ true → rtp_fault datagram.now ≡ None }
     {
         if is_rtcp(datagram) {
             return bare(self.take_rtcp(datagram, at));
@@ -107,8 +135,11 @@ impl Filer {
     }
 
     fn take_rtcp(&mut self, datagram: &[u8], at: u32) -> OutcomeEnd
+        requires { length datagram.now ≤ 2048 }
         ensures outcome { record { source = None; base = None; end = result } ≡ (read_rtcp_so (rtcp_fault datagram.now) self.old datagram.now at).outcome }
         ensures after { self.new ≡ (read_rtcp_so (rtcp_fault datagram.now) self.old datagram.now at).after }
+        ensures fits { EndFits result }
+        ensures other { is_filed result ≡ false }
     {
         let sender = match read_rtcp(datagram) {
             Err(fault) => return OutcomeEnd::RtcpRefused(fault),
@@ -133,6 +164,8 @@ impl Filer {
         ensures after { self.new ≡ (read_so (rtp_fault datagram.now) self.old (packet_of datagram.now) at (replies_of result)).after }
         ensures all { HasAllFrames (packet_of datagram.now).payload result.end }
         ensures calls { Chained S.did side.old (read_so (rtp_fault datagram.now) self.old (packet_of datagram.now) at (replies_of result)).calls side.new }
+        ensures fits { EndFits result.end }
+        ensures read { is_filed result.end ≡ true → rtp_fault datagram.now ≡ None }
     {
         match read_rtp(datagram) {
             Err(fault) => bare(OutcomeEnd::RtpRefused(fault)),
@@ -147,6 +180,7 @@ impl Filer {
         ensures after { self.new ≡ (admitted self.old view.now at (replies_of result)).after }
         ensures all { HasAllFrames view.now.payload result.end }
         ensures calls { Chained S.did side.old (admitted self.old view.now at (replies_of result)).calls side.new }
+        ensures fits { EndFits result.end }
     {
         let head = view.head();
         let (source, held) = ask_source(self.source, side, head.ssrc);

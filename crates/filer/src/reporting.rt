@@ -1,5 +1,6 @@
 // The statistics of a filer's source, and when a report of them is due.
-ghost use Rattle.std.specs.Prelude.{◌≡◌, ◌≤◌};
+ghost use Rattle.std.specs.Prelude.{◌≡◌, ◌≤◌, IfSome};
+ghost use Rattle.rtcp_stats.specs.Writing.{FitsLost};
 ghost use Rattle.filer.specs.Reporting.{begun, quiet, hears, with_packet};
 
 use rtcp_stats::{Receiver, ReportBlock};
@@ -16,14 +17,15 @@ pub struct Reporting {
 }
 
 impl Model for Reporting {
-    ghost use Rattle.std.specs.Prelude.{◌<◌};
+    ghost use Rattle.std.specs.Prelude.{◌<◌, IfSome};
+    ghost use Rattle.rtcp_stats.specs.Writing.{FitsLost};
     ghost use Rattle.filer.specs.Reporting.{Reports};
 
     ghost Value = { Reports };
 
     ghost view = { λ r. record { every = r.every; statistics = r.receiver; valid = r.valid; due = r.due } };
 
-    ghost invariant = { λ r. r.valid < r.every };
+    ghost invariant = { λ r. (r.valid < r.every) × IfSome r.due (λ b. FitsLost b.lost) };
 
     ghost inverse = { λ v. record { every = v.every; receiver = v.statistics; valid = v.valid; due = v.due } };
 }
@@ -46,6 +48,14 @@ impl Reporting {
         ensures { self.new ≡ quiet self.old }
     {
         self.due = None;
+    }
+
+    /// The report that is due.
+    pub fn due(&self) -> Option<ReportBlock>
+        ensures due { result ≡ self.now.due }
+        ensures fits { IfSome result (λ b. FitsLost b.lost) }
+    {
+        self.due
     }
 
     /// A sender report of the source was heard.
