@@ -1,18 +1,15 @@
 -- How a run ends behind its turns.
-use Rattle.std.proofs.Common.{◌≡◌, ℕ, zero, suc, ◌+◌, ◌-◌, ◌^◌, ◌≤◌, min, List, [], ◌∷◌, ◌++◌, take, Option, Some, None, Result, Ok, Err, inl, inr, refl, sym, ap, subst, ◌∙◌, append-nil, arith}
+use Rattle.std.proofs.Common.{◌≡◌, ℕ, zero, suc, ◌+◌, ◌≤◌, List, [], ◌∷◌, ◌++◌, take, Option, Result, Ok, Err, inl, inr, refl, sym, subst, append-nil, arith}
 use Rattle.std.specs.Io.KnownBytes.{Appends}
 use Rattle.std.proofs.KnownBytes.{Appends-trans}
 use Rattle.gate_base.specs.Faults.{HasCause, Rose}
-use Rattle.gate_io.specs.Links.{LinkLog}
 use Rattle.gate_io.specs.Flow.{AppendsPart, Gives}
 use Rattle.play_machine.specs.declared.call.Call.{Call}
 use Rattle.recorder.specs.Files.{end_mark}
 use Rattle.filer.specs.declared.outcome.Outcome.{Outcome}
 use Rattle.filer.specs.declared.run.FilerEnd.TheVariants as ended
-use Rattle.filer.specs.declared.turn.Turn.{Turn}
 use Rattle.filer.specs.declared.turn.Turn.TheVariants as turn
-use Rattle.filer.specs.Journals.{run_text}
-use Rattle.filer.specs.Turns.{CutOff, LinkFailed, Marked, RanOut, Standing, Stopped, Turned, Unmarked, Unsent, WentOn}
+use Rattle.filer.specs.Turns.{LinkFailed, Marked, RanOut, Standing, Stopped, Turned, Unmarked, WentOn}
 use Rattle.filer.proofs.Turning.{cut-after, unsent-after, unsent-of, went-after}
 
 pub rose-later : (before mid now : ℕ) → before ≤ mid → Rose mid now → Rose before now

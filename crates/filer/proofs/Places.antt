@@ -1,9 +1,9 @@
 -- The place that a refusal of RTCP tells lies within its datagram.
-use Rattle.std.proofs.Common.{◌≡◌, ℕ, zero, suc, ◌+◌, ◌^◌, ◌<◌, ◌≤◌, ◌||◌, Bool, true, false, cond, List, length, Option, Some, None, nat_le, nat_lt, refl, sym, ap, subst, ◌∙◌, arith}
+use Rattle.std.proofs.Common.{◌≡◌, ℕ, zero, suc, ◌+◌, ◌^◌, ◌<◌, ◌≤◌, ◌||◌, Bool, true, false, cond, List, length, Option, Some, None, nat_le, nat_lt, refl, ap, subst, ◌∙◌, arith}
 use Rattle.std.proofs.lemmas.Bool.Decides.{nat_tests}
 use Rattle.rtcp_stats.specs.declared.fault.RtcpFault.{RtcpFault}
 use Rattle.rtcp_stats.specs.declared.fault.RtcpFault.TheVariants as rtcp
-use Rattle.rtcp_stats.specs.Compound.{fault_from, first_of, is_cut, packet_end, packet_fault, rtcp_fault}
+use Rattle.rtcp_stats.specs.Compound.{fault_from, first_of, packet_end, packet_fault, rtcp_fault}
 use Rattle.filer.specs.Journals.{rtcp_detail}
 
 -- the chain of tests of one packet

@@ -1,7 +1,6 @@
 -- Events of a journal, one after the other.
-use Rattle.std.proofs.Common.{◌≡◌, ℕ, List, [], ◌∷◌, ◌++◌, Bool, true, false, Option, Result, Ok, Err, is_err, refl, sym, ap, subst, ◌∙◌, append_assoc, append-nil}
+use Rattle.std.proofs.Common.{◌≡◌, ℕ, List, [], ◌∷◌, ◌++◌, true, false, Option, Result, Ok, Err, is_err, refl, sym, ap, subst, ◌∙◌, append_assoc}
 use Rattle.std.specs.Io.KnownBytes.{Appends}
-use Rattle.std.proofs.KnownBytes.{Appends-trans}
 use Rattle.gate_io.specs.Flow.{AppendsPart, Gives}
 use Rattle.gate_io.specs.FlowLaws.{AppendsPart-after, AppendsPart-longer, Gives-after}
 use Rattle.recorder.specs.declared.events.FilerEvent.{FilerEvent}
