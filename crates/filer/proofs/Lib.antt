@@ -1,4 +1,9 @@
-pub mod Chains
-pub mod Filing
 pub mod Cases
+pub mod Chains
+pub mod Ending
+pub mod Filing
+pub mod Places
 pub mod RunsOn
+pub mod Texts
+pub mod Turning
+pub mod Writing

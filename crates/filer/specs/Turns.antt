@@ -56,10 +56,10 @@ abbrev pub standing : {S : Type 0} → Known → S → Option LinkLog → Option
 standing {S} known side log given = record { known = known; side = side; log = log; given = given }
 
 -- the link gave these datagrams, was idle so often, and sent these
-pub record Passed (ds : List (List ℕ × ℕ)) (idles : ℕ) (sent : List (List ℕ)) (a b : LinkLog) : Type 0 where
+pub record Passed (ds : List (List ℕ × ℕ)) (n : ℕ) (s : List (List ℕ)) (a b : LinkLog) : Type 0 where
   pub taken : b.taken ≡ a.taken ++ ds
-  pub idles : b.idles ≡ a.idles + idles
-  pub sent : b.sent ≡ a.sent ++ sent
+  pub idles : b.idles ≡ a.idles + n
+  pub sent : b.sent ≡ a.sent ++ s
 
 -- these datagrams of the link were taken with these outcomes, by their calls on the side, and this was sent
 pub record Worked {S : Type 0} (did : S → Call → S → Type 0) (a b : Standing S) (ds : List (List ℕ × ℕ)) (os : List Outcome) (idles : ℕ) (sent : List (List ℕ)) : Type 0 where

@@ -100,7 +100,12 @@ impl Filer {
 }
 
 impl Filer {
-    pub(crate) fn take_one<S: FilerSide>(&mut self, side: &mut S, datagram: &[u8], at: u32) -> Outcome
+    pub(crate) fn take_one<S: FilerSide>(
+        &mut self,
+        side: &mut S,
+        datagram: &[u8],
+        at: u32,
+    ) -> Outcome
         requires { length datagram.now ≤ 2048 }
         ensures taken { IsTaken self.old datagram.now at result self.new }
         ensures calls { Chained S.did side.old (calls_of self.old datagram.now at result) side.new }

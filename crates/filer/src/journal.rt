@@ -1,5 +1,5 @@
 // A datagram goes into the journal.
-ghost use Rattle.std.specs.Prelude.{◌≡◌, ◌<◌, ◌+◌, ◌/◌, ◌^◌, true, None, length};
+ghost use Rattle.std.specs.Prelude.{◌≡◌, ◌∷◌, [], ◌<◌, ◌+◌, ◌/◌, ◌^◌, true, None, length};
 ghost use Rattle.gate_base.specs.Faults.{HasCause};
 ghost use Rattle.gate_io.specs.Flow.{Gives};
 ghost use Rattle.play_machine.specs.History.{ReplyFits};
@@ -76,11 +76,7 @@ fn write_one<J: Sink>(event: &FilerEvent, journal: &mut J) -> Result<(), Failed>
 }
 
 /// Gives what ended the datagram: its frames with their replies, or one other event.
-fn write_end_of<J: Sink>(
-    datagram: &[u8],
-    end: &OutcomeEnd,
-    journal: &mut J,
-) -> Result<(), Failed>
+fn write_end_of<J: Sink>(datagram: &[u8], end: &OutcomeEnd, journal: &mut J) -> Result<(), Failed>
     requires fits { EndFits end.now }
     requires read { is_filed end.now ≡ true → rtp_fault datagram.now ≡ None }
     requires all { HasAllFrames (packet_of datagram.now).payload end.now }

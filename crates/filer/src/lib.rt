@@ -22,4 +22,6 @@ pub use tally::count_end;
 pub use turn::Turn;
 
 #[cfg(test)]
+mod run_tests;
+#[cfg(test)]
 mod tests;

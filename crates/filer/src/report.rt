@@ -8,11 +8,7 @@ use gate_io::{Failed, Link};
 use rtcp_stats::{ReportBlock, write_report};
 
 /// Sends the report that is due, where one is, as the source `own`.
-pub fn send_due<P: Link>(
-    own: u32,
-    due: Option<ReportBlock>,
-    link: &mut P,
-) -> Result<(), Failed>
+pub fn send_due<P: Link>(own: u32, due: Option<ReportBlock>, link: &mut P) -> Result<(), Failed>
     requires { IfSome due (λ b. FitsLost b.lost) }
     ensures sent { SendsDue (P.log link.old) (P.log link.new) result (report_datagrams own due) }
     ensures stays { P.ended link.new ≡ P.ended link.old }
