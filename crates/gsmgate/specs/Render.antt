@@ -4,8 +4,8 @@ use Rattle.recorder.specs.declared.fault.RecordFault.{RecordFault}
 use Rattle.recorder.specs.declared.tally.PlayTally.{PlayTally}
 use Rattle.recorder.specs.Journals.{IsPlayerJournal, PlayerRecord}
 use Rattle.replay_check.specs.Render.{Renders}
-use Rattle.replay_check.specs.declared.render.RenderEnd.{RenderEnd}
-use Rattle.replay_check.specs.declared.render.RenderEnd.TheVariants as ends
+use Rattle.replay_check.specs.declared.rendering.RenderEnd.{RenderEnd}
+use Rattle.replay_check.specs.declared.rendering.RenderEnd.TheVariants as ends
 use Rattle.gsmgate.specs.Exchange.{Exchange, Noted, NotedPart, NotedUnlessFault}
 use Rattle.gsmgate.specs.Notes.{fault_line, play_line}
 use Rattle.gsmgate.specs.declared.status.Status.{Status}

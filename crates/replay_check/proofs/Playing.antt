@@ -21,8 +21,8 @@ use Rattle.recorder.specs.Reader.{PlayProgress, stepped_play}
 use Rattle.recorder.specs.Tallies.{play_tally}
 use Rattle.substitution.specs.Heard.{Sounding, Voices, sample_octets}
 use Rattle.replay_check.specs.Render.{Follows, Played, event_items, items_of}
-use Rattle.replay_check.specs.declared.render.RenderEnd.{RenderEnd}
-use Rattle.replay_check.specs.declared.render.RenderEnd.TheVariants.{Done, Refused, ReadFault, WriteFault}
+use Rattle.replay_check.specs.declared.rendering.RenderEnd.{RenderEnd}
+use Rattle.replay_check.specs.declared.rendering.RenderEnd.TheVariants.{Done, Refused, ReadFault, WriteFault}
 
 abbrev pub journal : Heading → List PlayEvent → PlayerRecord
 journal h events = record { head = h; events = events }

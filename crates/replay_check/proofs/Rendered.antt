@@ -8,8 +8,8 @@ use Rattle.recorder.specs.Heads.{Heading, head_fault, head_text, play_magic}
 use Rattle.recorder.specs.Journals.{HasPlayerFault, IsPlayerJournal, PlayerRecord, PlayersHaveNoFault, player_front}
 use Rattle.recorder.specs.Play.{play_event_text}
 use Rattle.replay_check.specs.Render.{Completes, Follows, NothingPlayed, Played, Renders}
-use Rattle.replay_check.specs.declared.render.RenderEnd.{RenderEnd}
-use Rattle.replay_check.specs.declared.render.RenderEnd.TheVariants.{Refused}
+use Rattle.replay_check.specs.declared.rendering.RenderEnd.{RenderEnd}
+use Rattle.replay_check.specs.declared.rendering.RenderEnd.TheVariants.{Refused}
 
 -- the head stands before the events
 pub with-head : (seed : List ℕ) (h : Heading) (end : RenderEnd) (input mid before now : Option (List ℕ)) (j : PlayerRecord) (samples : List ℤ) → j.head ≡ h → Consumes input mid (head_text play_magic h)

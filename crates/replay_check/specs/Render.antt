@@ -14,8 +14,8 @@ use Rattle.recorder.specs.Journals.{IsPlayerJournal, PlayerRecord, PlayerRecordF
 use Rattle.recorder.specs.Play.{play_fault_at}
 use Rattle.recorder.specs.Tallies.{play_tally}
 use Rattle.substitution.specs.Heard.{IsHeard, sample_octets}
-use Rattle.replay_check.specs.declared.render.RenderEnd.{RenderEnd}
-use Rattle.replay_check.specs.declared.render.RenderEnd.TheVariants.{Done, Refused, ReadFault, WriteFault}
+use Rattle.replay_check.specs.declared.rendering.RenderEnd.{RenderEnd}
+use Rattle.replay_check.specs.declared.rendering.RenderEnd.TheVariants.{Done, Refused, ReadFault, WriteFault}
 
 -- what an event plays
 abbrev pub event_items : PlayEvent → List Item

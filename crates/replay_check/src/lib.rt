@@ -1,6 +1,6 @@
 //! What journals tell: the speech that the player's journal played.
 #![tactic(auto)]
 
-mod render;
+mod rendering;
 
-pub use render::{RenderEnd, render};
+pub use rendering::{RenderEnd, render};
