@@ -5,5 +5,6 @@ pub mod Script
 pub mod Play
 pub mod Filing
 pub mod Reader
+pub mod Journals
 pub mod Tallies
 pub mod TallyLaws

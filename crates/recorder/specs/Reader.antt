@@ -7,6 +7,9 @@ use Rattle.recorder.specs.declared.fault.Ending.{Ending}
 use Rattle.recorder.specs.declared.fault.Ending.TheVariants.{Mark, Refused}
 use Rattle.recorder.specs.declared.events.ScriptEvent.{ScriptEvent}
 use Rattle.recorder.specs.declared.events.PlayEvent.{PlayEvent}
+use Rattle.recorder.specs.declared.events.FilerEvent.{FilerEvent}
+use Rattle.recorder.specs.declared.filer_head.FilerHead.{FilerHead}
+use Rattle.recorder.specs.Filing.{filer_event_text}
 use Rattle.recorder.specs.Play.{may_open, play_event_text}
 use Rattle.recorder.specs.Script.{event_text}
 use Rattle.recorder.specs.Heads.{Heading}
@@ -86,3 +89,30 @@ opening_after opening (Err e) = opening
 -- a reader after an answer
 abbrev pub stepped_play : PlayProgress → Result (Option PlayEvent) RecordEnd → PlayProgress
 stepped_play p result = record { reading = stepped_by play_event_text p.reading result; opening = opening_after p.opening result }
+
+-- ---- of a filer's journal
+
+-- the head, which has the filer's number too, once that is read; the head of what is kept besides is not used
+pub record FilerProgress : Type 0 where
+  pub head : Option FilerHead
+  pub reading : Progress
+
+-- before any octet was read
+abbrev pub fresh_filer : FilerProgress
+fresh_filer = record { head = None; reading = fresh }
+
+-- a reader after its first answer
+abbrev pub headed_filer : Result FilerHead RecordEnd → FilerProgress
+headed_filer (Ok h) = record { head = Some h; reading = record fresh { at = 13 } }
+headed_filer (Err e) = record { head = None; reading = record fresh { over = Some (Refused e) } }
+
+-- what a reader whose head is decided answers
+abbrev pub filer_again : Option FilerHead → Option Ending → Option (Result FilerHead RecordEnd)
+filer_again (Some h) over = Some (Ok h)
+filer_again None None = None
+filer_again None (Some Mark) = None
+filer_again None (Some (Refused e)) = Some (Err e)
+
+-- a reader after an answer
+abbrev pub stepped_filer : FilerProgress → Result (Option FilerEvent) RecordEnd → FilerProgress
+stepped_filer p result = record p { reading = stepped_by filer_event_text p.reading result }

@@ -10,7 +10,7 @@ use byteorder::{BigEndian, ByteOrder};
 use frame_codec::{Frame33, frame_of};
 
 // Numbers of frames are below this one.
-const NUMBERS: u64 = 1 << 47;
+pub const NUMBERS: u64 = 1 << 47;
 
 /// The File that has these fields, or their first fault. The first of them stands at octet `from` of the file.
 pub fn file_event(head: &Head, from: u64, fields: &[u8]) -> Result<ScriptEvent, RecordFault>

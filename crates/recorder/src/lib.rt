@@ -4,14 +4,21 @@
 mod events;
 mod fault;
 mod fields;
+mod filer_fields;
+mod filer_head;
+mod filer_journal;
+mod filer_read;
+mod filer_reader;
 mod filer_writer;
 mod heading;
 mod laws;
 mod play_read;
 mod play_reader;
 mod play_writer;
+mod player_journal;
 mod read;
 mod reading;
+mod refusal;
 mod script_read;
 mod script_reader;
 mod script_writer;
@@ -19,14 +26,23 @@ mod tally;
 
 pub use events::{Asked2, FilerEvent, PlayEvent, ScriptEvent};
 pub use fault::{Ending, RecordEnd, RecordFault};
+pub use filer_head::FilerHead;
+pub use filer_journal::FilerJournal;
+pub use filer_reader::FilerReader;
 pub use filer_writer::{write_filer, write_filer_head};
 pub use heading::Head;
-pub use laws::scripts_have_no_fault;
+pub use laws::{
+    filer_journals_have_no_fault, player_journals_have_no_fault, scripts_have_no_fault,
+};
 pub use play_reader::PlayReader;
 pub use play_writer::{play_event_of, write_end, write_play, write_play_head};
+pub use player_journal::PlayerJournal;
+pub use refusal::JournalRefusal;
 pub use script_reader::ScriptReader;
 pub use script_writer::{write_script, write_script_head};
 pub use tally::{PlayTally, Tally};
 
+#[cfg(test)]
+mod journal_tests;
 #[cfg(test)]
 mod tests;

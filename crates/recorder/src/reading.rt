@@ -30,7 +30,7 @@ impl Model for Reading {
 
     ghost view = { λ r. record { head = r.head; at = r.at; count = r.count; over = r.over } };
 
-    ghost invariant = { λ r. (r.at ≤ 12 + 4096 * r.count) × (r.count ≤ event_limit) };
+    ghost invariant = { λ r. (r.at ≤ 13 + 4096 * r.count) × (r.count ≤ event_limit) };
 }
 
 impl Reading {
@@ -41,6 +41,19 @@ impl Reading {
         Reading {
             head: None,
             at: 0,
+            count: 0,
+            over: None,
+        }
+    }
+
+    /// Behind a head of so many octets, which its reader keeps.
+    pub fn behind(size: u64) -> Reading
+        requires { size ≤ 13 }
+        ensures { result ≡ record fresh { at = size } }
+    {
+        Reading {
+            head: None,
+            at: size,
             count: 0,
             over: None,
         }

@@ -1,0 +1,102 @@
+-- A player's journal has no fault.
+use Rattle.std.proofs.Common.{◌≡◌, ◌≢◌, ℕ, ◌+◌, ◌^◌, ◌<◌, ◌≤◌, Bool, true, false, ltb, leb, ◌&&◌, List, [], ◌∷◌, ◌++◌, length, take, drop, Option, Some, None, refl, sym, ap, subst, ◌∙◌, append_assoc, inl, inr, arith}
+use Rattle.std.specs.Prelude.{◌==◌, if◌then◌else◌}
+use Rattle.std.specs.List.{flat_map}
+use Rattle.std.proofs.Math.Nat.{pow-le-pow_right}
+use Rattle.std.proofs.lemmas.Bool.{le-ltb}
+use Rattle.std.proofs.lemmas.Bool.Decides.{nat_tests}
+use Rattle.std.proofs.lemmas.List.{take_at, drop_at}
+use Rattle.byteorder.specs.Endian.{big_bytes, big_number}
+use Rattle.byteorder.specs.Numbers.{big_number-reads_back}
+use Rattle.frame_codec.specs.Octets.{IsFrame}
+use Rattle.recorder.specs.declared.fault.RecordFault.{RecordFault}
+use Rattle.recorder.specs.declared.events.PlayEvent.{PlayEvent}
+use Rattle.recorder.specs.declared.events.PlayEvent.TheVariants.{Idle, Base, Erasure, Frame}
+use Rattle.recorder.specs.Fields.{judged_behind}
+use Rattle.recorder.specs.Files.{end_mark, event_limit, is_signed, fault_by}
+use Rattle.recorder.specs.Heads.{Heading, IsHeading, head_fault, head_text, play_magic}
+use Rattle.recorder.specs.Journals.{PlayerRecord, PlayersHaveNoFault, opening_behind}
+use Rattle.recorder.specs.Play.{AllPlayFit, PlayFits, may_open, play_event_text, play_fault_at, play_field_fault, play_width}
+use Rattle.recorder.proofs.OneText.{AllFit, behind, no_fault, none_some}
+use Rattle.recorder.proofs.FilerUnique.{passes_on}
+
+abbrev front_of : List ℕ → Option (PlayEvent × List ℕ)
+front_of [] = None
+front_of (kind ∷ l) =
+    if kind == 16 then Some (Idle, l)
+    else if kind == 17 then Some (Base (big_number 4 (take 4 l)), drop 4 l)
+    else if kind == 18 then Some (Erasure, l)
+    else if kind == 19 then Some (Frame (take 33 l), drop 33 l)
+    else None
+
+front_is : (opening : Bool) (e : PlayEvent) (x : List ℕ) → PlayFits opening e → front_of (play_event_text e ++ x) ≡ Some (e, x)
+front_is opening Idle x fits = refl
+front_is opening (Base base) x fits =
+    let back : big_number 4 (big_bytes 4 base) ≡ base = big_number-reads_back 4 base [] (omega (arith, fits.1)) in
+    λ i. Some (Base (back i), x)
+front_is opening Erasure x fits = refl
+front_is opening (Frame frame) x fits =
+    let first : take 33 (frame ++ x) ≡ frame = take_at frame x 33 fits.size in
+    let rest : drop 33 (frame ++ x) ≡ x = drop_at frame x 33 fits.size in
+    λ i. Some (Frame (first i), rest i)
+
+next_is : (opening : Bool) (kind count at : ℕ) (fields rest : List ℕ) (m : ℕ) → kind ≢ end_mark → count < event_limit → play_width opening kind ≡ Some m → length fields ≡ m
+    → play_fault_at opening count at (kind ∷ (fields ++ rest)) ≡ play_field_fault kind (at + 1) fields
+next_is opening kind count at fields rest m other few width len =
+    let is : play_fault_at opening count at (kind ∷ (fields ++ rest)) ≡ judged_behind (play_width opening kind) (play_field_fault kind) at (fields ++ rest) =
+    by_kind (λ k. judged_behind (play_width opening k) (play_field_fault k)) in
+    is ∙ ap (λ (o : Option ℕ). judged_behind o (play_field_fault kind) at (fields ++ rest)) width ∙ ap (play_field_fault kind (at + 1)) (take_at fields rest m len)
+  where
+    by_kind : (behind : ℕ → ℕ → List ℕ → Option RecordFault) → fault_by behind count at (kind ∷ (fields ++ rest)) ≡ behind kind at (fields ++ rest)
+    by_kind behind = grind (arith, nat_tests, other)
+
+frame_clear : (from : ℕ) (frame : List ℕ) → IsFrame frame → play_field_fault 19 from frame ≡ None
+frame_clear from frame fits =
+    let whole : take 33 frame ≡ frame = subst (λ (n : ℕ). take n frame ≡ frame) fits.size (take_length frame) in
+    passes_on frame from 0 33 is_signed None (omega (arith, fits.size)) (ap is_signed whole ∙ grind (arith, nat_tests, fits.signature))
+  where
+    take_length : (l : List ℕ) → take (length l) l ≡ l
+    take_length [] = refl
+    take_length (x ∷ l) = ap (λ (k : List ℕ). x ∷ k) (take_length l)
+
+clear : (opening : Bool) (k at : ℕ) (e : PlayEvent) (rest : List ℕ) → PlayFits opening e → k < event_limit → play_fault_at opening k at (play_event_text e ++ rest) ≡ None
+clear opening k at Idle rest fits few = next_is opening 16 k at [] rest 0 (λ is. omega arith) few (ap (λ (b : Bool). play_width b 16) fits) refl
+clear opening k at (Base base) rest fits few =
+    next_is opening 17 k at (big_bytes 4 base) rest 4 (λ is. omega arith) few (ap (λ (b : Bool). play_width b 17) fits.0) refl
+    ∙ passes_on (big_bytes 4 base) (at + 1) 0 4 (λ (o : List ℕ). true) None (omega arith) refl
+clear opening k at Erasure rest fits few = next_is opening 18 k at [] rest 0 (λ is. omega arith) few refl refl
+clear opening k at (Frame frame) rest fits few = next_is opening 19 k at frame rest 33 (λ is. omega arith) few refl fits.size ∙ frame_clear (at + 1) frame fits
+
+head_clear : (h : Heading) (x : List ℕ) → IsHeading h → head_fault play_magic (take 12 (head_text play_magic h ++ x)) ≡ None
+head_clear h x is =
+    let top : 2 ^ h.g ≤ 2 ^ 10 = pow-le-pow_right {n = 2} (omega arith) is.g in
+    let delay : ltb (big_number 2 (take 2 (drop 10 (head_text play_magic h)))) (2 ^ h.g) ≡ true =
+    rw (big_number-reads_back 2 h.delay [] (omega (arith, is.delay, top))) (grind (arith, nat_tests, is.delay)) in
+    let g : leb h.g 10 ≡ true = grind (arith, nat_tests, is.g) in
+    let filers : (leb 1 h.filers && leb h.filers 64) ≡ true = grind (arith, nat_tests, is.some, is.few) in
+    rw (filers, g, delay) refl
+
+abbrev goes_on : Bool → PlayEvent → Bool
+goes_on opening e = may_open e
+
+all_fit : (opening : Bool) (es : List PlayEvent) → AllPlayFit opening es → AllFit PlayFits goes_on opening es
+all_fit opening [] all = tt
+all_fit opening (e ∷ es) all = (all.0, all_fit (may_open e) es all.1)
+
+same_behind : (opening : Bool) (es : List PlayEvent) → opening_behind opening es ≡ behind goes_on opening es
+same_behind opening [] = refl
+same_behind opening (e ∷ es) = same_behind (may_open e) es
+
+pub not_both : PlayersHaveNoFault
+not_both octets j f journal (inl fault) =
+    let is : octets ≡ head_text play_magic j.head ++ ((flat_map play_event_text j.events ++ end_mark ∷ []) ++ journal.text.0) = journal.text.1 in
+    none_some f (head_fault play_magic (take 12 octets)) (ap (λ (l : List ℕ). head_fault play_magic (take 12 l)) is ∙ head_clear j.head ((flat_map play_event_text j.events ++ end_mark ∷ []) ++ journal.text.0) journal.fits.head) fault
+not_both octets j f journal (inr (k, after)) =
+    let one : drop 12 octets ≡ flat_map play_event_text j.events ++ end_mark ∷ journal.text.0 = ap (drop 12) journal.text.1 ∙ append_assoc (flat_map play_event_text j.events) (end_mark ∷ []) journal.text.0 in
+    let two : drop 12 octets ≡ flat_map play_event_text k.events ++ after.rest = ap (drop 12) after.text in
+    let place = length (head_text play_magic k.head ++ flat_map play_event_text k.events) in
+    let there : play_fault_at (behind goes_on true k.events) (length k.events) place after.rest ≡ Some f =
+    subst (λ (b : Bool). play_fault_at b (length k.events) place after.rest ≡ Some f) (same_behind true k.events) after.fault in
+    no_fault PlayEvent Bool play_event_text PlayFits goes_on play_fault_at front_of clear (λ s n at more. refl) front_is (λ more. refl)
+    true 0 place k.events j.events after.rest journal.text.0 f (all_fit true k.events after.fits.events) (all_fit true j.events journal.fits.events)
+    (omega (arith, journal.fits.few)) (sym two ∙ one) (subst (λ (n : ℕ). play_fault_at (behind goes_on true k.events) n place after.rest ≡ Some f) (omega arith) there)

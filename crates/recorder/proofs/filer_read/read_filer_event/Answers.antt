@@ -1,0 +1,30 @@
+use Rattle.std.proofs.Common.{◌≡◌, ℕ, length, Option, None, Some, sym, ◌∙◌, arith}
+use Rattle.std.proofs.lemmas.List.{length-take-le}
+use Rattle.recorder.specs.Fields.{judged_behind}
+use Rattle.recorder.specs.Filing.{filer_field_fault, filer_width}
+use Rattle.recorder.specs.declared.fault.RecordFault.{RecordFault}
+use Rattle.recorder.proofs.Taken.{told_behind}
+use Rattle.recorder.proofs.filer_read.read_filer_event.Goals as goal
+
+pub returns-in-Err-clause-fault : goal.returns-in-Err-clause-fault
+returns-in-Err-clause-fault g c = c.in-Err.ensures.fault (λ kind. judged_behind (filer_width kind) (filer_field_fault kind))
+
+pub returns-in-Err-filer_event-clause-fault : goal.returns-in-Err-filer_event-clause-fault
+returns-in-Err-filer_event-clause-fault g c =
+    let left = g.I.Source.left in
+    let kind = rw c.in-Ok-Some.field-0-is at c.in-Ok-Some.ensures in
+    let len : length c.fill.new.into ≡ c.in-Some.width = c.fill.auto.into ∙ length-take-le c.in-Some.width _ c.in-Some.ensures.few in
+    told_behind (left c.args.source.now) (left c.read_kind.new.source) (left c.fill.new.source) c.in-Ok-Some.kind c.args.count c.args.at c.in-Ok.there c.in-Some.width c.fill.new.into
+    filer_width filer_field_fault (λ (f : Option RecordFault). f ≡ Some c.in-Err-filer_event.fault)
+    kind.kind.0 kind.kind.1 kind.text (sym c.in-Some.ensures.width) (omega (arith, len, c.in-Ok.ensures.within.0)) len
+    c.in-Ok.ensures.filled.0 (λ lt. c.in-Ok.ensures.filled.1 (omega (arith, len))) c.in-Err-filer_event.ensures.fault
+
+pub returns-in-Ok-filer_event-clause-fault : goal.returns-in-Ok-filer_event-clause-fault
+returns-in-Ok-filer_event-clause-fault g c =
+    let left = g.I.Source.left in
+    let kind = rw c.in-Ok-Some.field-0-is at c.in-Ok-Some.ensures in
+    let len : length c.fill.new.into ≡ c.in-Some.width = c.fill.auto.into ∙ length-take-le c.in-Some.width _ c.in-Some.ensures.few in
+    told_behind (left c.args.source.now) (left c.read_kind.new.source) (left c.fill.new.source) c.in-Ok-Some.kind c.args.count c.args.at c.in-Ok.there c.in-Some.width c.fill.new.into
+    filer_width filer_field_fault (λ (f : Option RecordFault). f ≡ None)
+    kind.kind.0 kind.kind.1 kind.text (sym c.in-Some.ensures.width) (omega (arith, len, c.in-Ok.ensures.within.0)) len
+    c.in-Ok.ensures.filled.0 (λ lt. c.in-Ok.ensures.filled.1 (omega (arith, len))) c.in-Ok-filer_event.ensures.fault
