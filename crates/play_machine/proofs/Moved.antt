@@ -28,3 +28,9 @@ moved ring p old new (Some f) rises window taken =
   where
     here : (p : ℕ) (f : List ℕ) (l : Pairs) → looked_up ((p, f) ∷ l) p ≡ Some f
     here p f l = grind (arith, nat_tests)
+
+-- the first pair's frame, where that has the number, is the map's
+pub front_is : (ring p : ℕ) (pairs : Pairs) (front : Option (List ℕ)) → Rises pairs → InWindow ring p pairs
+    → MatchOption front (0 < length pairs → p < key_at pairs 0) (λ f. (rest : Pairs) × (pairs ≡ (p, f) ∷ rest)) → front ≡ map.get (frames_in pairs) p
+front_is ring p pairs None rises window above = let m = moved ring p pairs pairs None rises window (refl, above) in m.item
+front_is ring p pairs (Some f) rises window first = let m = moved ring p pairs first.0 (Some f) rises window first.1 in m.item

@@ -1,5 +1,5 @@
 -- No reply of the machine is free.
-use Rattle.std.proofs.Common.{◌≡◌, ℕ, true, true≢false, List, [], ◌∷◌, Option, None, is_some, refl, sym, ap, ◌∙◌, subst, arith}
+use Rattle.std.proofs.Common.{◌≡◌, ◌↔◌, IsTrue, Bool, ℕ, true, true≢false, List, [], ◌∷◌, Option, None, is_some, refl, sym, ap, ◌∙◌, subst, arith}
 use Rattle.std.specs.FinMap as map
 use Rattle.play_machine.specs.declared.call.Call.{Call}
 use Rattle.play_machine.specs.declared.call.Call.TheVariants.{FileCall, SourceCall, BaseCall, PeekCall, TickCall}
@@ -88,3 +88,8 @@ one_history r m (x ∷ one) (y ∷ two) same p q =
 
 pub replies_are_one : RepliesAreOne
 replies_are_one r one two same p q = one_history r opening_machine one two same p q
+
+-- a reply that is compared with the machine's
+pub can_file : (r : ℕ) (m : Machine) (call : Call) (n : ℕ) (f : List ℕ) (reply found : FileReply) (b : Bool) → call ≡ FileCall n f reply → FileReplies r m n found → (IsTrue b ↔ (reply ≡ found)) → (IsTrue b ↔ Replies r m call)
+can_file r m call n f reply found b is replies same =
+    (λ equal. subst (Replies r m) (sym is) (subst (FileReplies r m n) (sym (same.0 equal)) replies), λ h. same.1 (one_file_reply r m n reply found (subst (Replies r m) is h) replies))

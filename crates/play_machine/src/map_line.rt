@@ -1,11 +1,13 @@
 // A line on one thread.
-ghost use Rattle.std.specs.Prelude.{◌≡◌, ◌≢◌, ◌<◌, ◌≤◌, ◌+◌, ◌^◌, IfOk};
-ghost use Rattle.play_machine.specs.Machine.{opening_machine, item_of, FileReplies, IsAhead, filed};
+ghost use Rattle.std.specs.Prelude.{◌≡◌, ◌≢◌, ◌<◌, ◌≤◌, ◌+◌, ◌^◌, ◌↔◌, IfOk, IsTrue};
+ghost use Rattle.std.specs.FinMap as map;
+ghost use Rattle.play_machine.specs.Machine.{opening_machine, held_or, item_of, FileReplies, IsAhead, Replies, filed};
 ghost use Rattle.play_machine.specs.Line.{Steps};
 ghost use Rattle.play_machine.specs.History.{ReplyFits};
 ghost use Rattle.play_machine.specs.declared.call.Call.{Call};
 
-use crate::pairs::{place_of, take_front};
+use crate::call::Call;
+use crate::pairs::{front_of, place_of, take_front};
 use crate::reply::FileReply;
 use frame_codec::{Frame33, Item};
 use gate_base::OutOfMemory;
@@ -68,6 +70,27 @@ fn item_of(front: Option<Frame33>) -> Item
         Some(frame) => Item::Frame(frame),
         None => Item::Erasure,
     }
+}
+
+fn held_or(held: Option<u32>, said: u32) -> u32
+    ensures { result ≡ held_or held said }
+{
+    match held {
+        Some(held) => held,
+        None => said,
+    }
+}
+
+fn same_reply(one: &FileReply, other: &FileReply) -> bool
+    ensures { IsTrue result ↔ (one.now ≡ other.now) }
+{
+    *one == *other
+}
+
+fn same_item(one: &Item, other: &Item) -> bool
+    ensures { IsTrue result ↔ (one.now ≡ other.now) }
+{
+    *one == *other
 }
 
 impl MapLine {
@@ -173,5 +196,48 @@ impl MapLine {
         let front = take_front(&mut self.pairs, self.position);
         self.position += 1;
         item_of(front)
+    }
+
+    /// Whether the line would reply to a call as the call has it. Nothing is called.
+    pub fn can(&self, call: &Call) -> bool
+        ensures { IsTrue result ↔ Replies (2 ^ self.now.g) self.now.machine call.now }
+    {
+        match call {
+            Call::FileCall { number, reply, .. } => same_reply(reply, &self.reply_to(*number)),
+            Call::SourceCall { ssrc, held } => *held == held_or(self.source, *ssrc),
+            Call::BaseCall { ts, held } => *held == held_or(self.base, *ts),
+            Call::PeekCall { held } => *held == self.base,
+            Call::TickCall { item } => same_item(item, &self.next_item()),
+        }
+    }
+
+    // The answer to a frame of this number.
+    fn reply_to(&self, number: u64) -> FileReply
+        ensures { FileReplies (2 ^ self.now.g) self.now.machine number result }
+    {
+        let slots = slots_of(self.g);
+        let first = self.position;
+        if number < first {
+            return FileReply::Late {
+                ahead: ahead_of(slots, first, number),
+            };
+        }
+        if first + slots <= number {
+            return FileReply::Beyond {
+                ahead: ahead_of(slots, first, number),
+            };
+        }
+        let place = place_of(&self.pairs, number);
+        match place {
+            Ok(_) => FileReply::Duplicate,
+            Err(_) => FileReply::Accepted,
+        }
+    }
+
+    // The item of the next number.
+    fn next_item(&self) -> Item
+        ensures { result ≡ item_of (map.get self.now.machine.frames self.now.machine.position) }
+    {
+        item_of(front_of(&self.pairs, self.position))
     }
 }
