@@ -1,0 +1,9 @@
+pub mod Frames
+pub mod Removed
+pub mod Sooner
+pub mod Greedy
+pub mod OneOrder
+pub mod Places
+pub mod Sofar
+pub mod AllLists
+pub mod Numbered

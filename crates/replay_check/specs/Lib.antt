@@ -1,0 +1,5 @@
+pub mod Verdict
+pub mod Rule
+pub mod Journals
+pub mod Lists
+pub mod Making

@@ -1,0 +1,23 @@
+//! Exact verdicts on recorded journals: whether the calls that they tell have a legal history.
+#![tactic(auto)]
+
+mod heads;
+mod laws;
+mod lists;
+mod making;
+mod order;
+mod pick;
+mod replay;
+mod verdict;
+
+pub use gate_base::OutOfMemory;
+pub use heads::are_of_one_line;
+pub use laws::{order_is_one, rule_decides, rule_is_exact};
+pub use order::Order;
+pub use replay::verify;
+pub use verdict::Verdict;
+
+#[cfg(test)]
+mod search_tests;
+#[cfg(test)]
+mod tests;
