@@ -8,29 +8,37 @@ use play_machine::FileReply;
 use std::alloc::Global;
 use std::test::Fail;
 
-// Puts a piece where it fits.
-fn put(octets: &mut [u8; 231], at: usize, piece: &[u8]) {
-    for (i, octet) in piece.iter().enumerate() {
-        if i < 231 && at < 231 - i {
-            octets[at + i] = *octet;
-        }
-    }
+// A frame of a File that was filed, after its kind.
+fn file(octets: &mut Vec<u8>, kind: u8) -> Result<(), OutOfMemory> {
+    octets.extend_from_slice(&[kind])?;
+    octets.extend_from_slice(b"\0\0\0\x01\0\0\0\x03")?;
+    octets.extend_from_slice(&[0xDA; 33])?;
+    Ok(())
 }
 
 // A head of two filers, 2^6 slots and delay 3, of filer 1, one event of each kind, and the end mark: 231 octets.
-fn filed() -> [u8; 231] {
-    let mut octets = [0xDA; 231];
-    put(&mut octets, 0, b"GSMGFJ01\x02\x06\x00\x03\x01");
-    put(&mut octets, 13, b"\x20\0\0\x03\xE8\0\0\x01\x02");
-    put(&mut octets, 22, b"\x21\0\0\x03\xE8\0\0\x01\x02");
-    put(&mut octets, 31, b"\x22\0\0\0\x01\0\0\0\x03");
-    put(&mut octets, 73, b"\x23\0\0\0\x01\0\0\0\x03");
-    put(&mut octets, 115, b"\x24\0\0\0\x01\0\0\0\x03");
-    put(&mut octets, 157, b"\0\0\0\x01\0\0\0\x04");
-    put(&mut octets, 165, b"\x25\0\0\0\x01\0\0\0\x03");
-    put(&mut octets, 207, b"\0\0\0\x01\0\0\0\x02");
-    put(&mut octets, 215, b"\x26\x07\0\x0D\x27\x28\0\0\0\x01\0\0\0\x02\x29\xFF");
-    octets
+fn filed(alloc: Global) -> Result<Vec<u8>, OutOfMemory> {
+    let mut octets: Vec<u8> = Vec::new(alloc);
+    // The events begin at 13, 22, 31, 73, 115, 165, 215, 219, 220 and 229.
+    octets.extend_from_slice(b"GSMGFJ01\x02\x06\x00\x03\x01\x20\0\0\x03\xE8\0\0\x01\x02")?;
+    octets.extend_from_slice(b"\x21\0\0\x03\xE8\0\0\x01\x02")?;
+    file(&mut octets, 0x22)?;
+    file(&mut octets, 0x23)?;
+    file(&mut octets, 0x24)?;
+    octets.extend_from_slice(b"\0\0\0\x01\0\0\0\x04")?;
+    file(&mut octets, 0x25)?;
+    octets.extend_from_slice(b"\0\0\0\x01\0\0\0\x02\x26\x07\0\x0D\x27\x28")?;
+    octets.extend_from_slice(b"\0\0\0\x01\0\0\0\x02\x29\xFF")?;
+    Ok(octets)
+}
+
+// The answer where one octet is another.
+fn changed(alloc: Global, at: usize, octet: u8) -> Result<Result<usize, RecordEnd>, OutOfMemory> {
+    let mut octets = filed(alloc)?;
+    if at < octets.len() {
+        octets[at] = octet;
+    }
+    filed_count(alloc, &octets, 3)
 }
 
 // How the octets of a filer's journal are answered: by the number of its events, or by the refusal.
@@ -51,11 +59,13 @@ fn filed_count(
 
 #[test]
 fn each_cut_of_a_filers_journal_is_told_with_its_place(rt: HostRuntime) -> Result<(), Fail> {
-    let octets = filed();
+    let octets = filed(rt.alloc())?;
+    assert_eq!(rt; octets.len(), 231);
     assert_eq!(rt; filed_count(rt.alloc(), &octets, 1)?, Ok(10));
     assert_eq!(rt; filed_count(rt.alloc(), &octets, 300)?, Ok(10));
     for n in 0..231 {
         let fault = RecordFault::Cut { at: n as u64 };
+        assert!(rt; n < octets.len());
         assert_eq!(rt;
             filed_count(rt.alloc(), &octets[..n], 7)?,
             Err(RecordEnd::Fault(fault))
@@ -95,11 +105,8 @@ fn a_wrong_octet_of_a_filers_journal_is_told_with_its_place(rt: HostRuntime) -> 
         (216, 8, field(217)),
     ];
     for (at, octet, fault) in cases {
-        let mut octets = filed();
-        assert!(rt; at < 231);
-        octets[at] = octet;
         assert_eq!(rt;
-            filed_count(rt.alloc(), &octets, 3)?,
+            changed(rt.alloc(), at, octet)?,
             Err(RecordEnd::Fault(fault))
         );
     }
@@ -108,7 +115,8 @@ fn a_wrong_octet_of_a_filers_journal_is_told_with_its_place(rt: HostRuntime) -> 
 
 #[test]
 fn a_filers_journal_keeps_its_events(rt: HostRuntime) -> Result<(), Fail> {
-    let mut source = MemorySource::new(rt.alloc(), &filed(), 9, &[])?;
+    let octets = filed(rt.alloc())?;
+    let mut source = MemorySource::new(rt.alloc(), &octets, 9, &[])?;
     let journal = FilerJournal::read(rt.alloc(), &mut source);
     assert!(rt; journal.is_ok());
     let Ok(journal) = journal else {
@@ -154,12 +162,13 @@ fn a_filers_journal_keeps_its_events(rt: HostRuntime) -> Result<(), Fail> {
 #[test]
 fn a_source_that_fails_gives_no_journal(rt: HostRuntime) -> Result<(), Fail> {
     let failed = JournalRefusal::End(RecordEnd::ReadFailed);
-    let mut source = MemorySource::new(rt.alloc(), &filed(), 10, &[4])?;
+    let octets = filed(rt.alloc())?;
+    let mut source = MemorySource::new(rt.alloc(), &octets, 10, &[4])?;
     assert_eq!(rt;
         FilerJournal::read(rt.alloc(), &mut source).err(),
         Some(failed)
     );
-    let mut wrong = MemorySource::new(rt.alloc(), &filed(), 10, &[])?;
+    let mut wrong = MemorySource::new(rt.alloc(), &octets, 10, &[])?;
     let magic = JournalRefusal::End(RecordEnd::Fault(RecordFault::Magic));
     assert_eq!(rt;
         PlayerJournal::read(rt.alloc(), &mut wrong).err(),

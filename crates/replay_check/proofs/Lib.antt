@@ -1,2 +1,11 @@
-mod Playing
-mod Rendered
+pub mod Frames
+pub mod Removed
+pub mod Sooner
+pub mod Greedy
+pub mod OneOrder
+pub mod Places
+pub mod Sofar
+pub mod AllLists
+pub mod Numbered
+pub mod Playing
+pub mod Rendered

@@ -1,1 +1,6 @@
+pub mod Verdict
+pub mod Rule
+pub mod Journals
+pub mod Lists
+pub mod Making
 pub mod Render

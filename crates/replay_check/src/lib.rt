@@ -1,6 +1,25 @@
-//! What journals tell: the speech that the player's journal played.
+//! What journals tell: whether their calls have a legal history, and the speech that was played.
 #![tactic(auto)]
 
+mod heads;
+mod laws;
+mod lists;
+mod making;
+mod order;
+mod pick;
 mod rendering;
+mod replay;
+mod verdict;
 
+pub use gate_base::OutOfMemory;
+pub use heads::are_of_one_line;
+pub use laws::{order_is_one, rule_decides, rule_is_exact};
+pub use order::Order;
 pub use rendering::{RenderEnd, render};
+pub use replay::verify;
+pub use verdict::Verdict;
+
+#[cfg(test)]
+mod search_tests;
+#[cfg(test)]
+mod tests;

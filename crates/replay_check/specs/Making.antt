@@ -1,0 +1,12 @@
+-- What the line asks of a call.
+use Rattle.std.specs.Prelude.{ℕ, ◌<◌, ◌^◌}
+use Rattle.play_machine.specs.declared.call.Call.{Call}
+use Rattle.play_machine.specs.declared.call.Call.TheVariants.{FileCall, SourceCall, BaseCall, PeekCall, TickCall}
+
+-- the number of a file is in its range, and a tick comes where the numbers do not end
+abbrev pub IsMakeable : ℕ → Call → Type 0
+IsMakeable position (FileCall n f reply) = n < 2 ^ 47
+IsMakeable position (SourceCall x held) = Unit {0}
+IsMakeable position (BaseCall x held) = Unit {0}
+IsMakeable position (PeekCall held) = Unit {0}
+IsMakeable position (TickCall item) = position < 2 ^ 33

@@ -1,0 +1,84 @@
+// The call that the rule takes next.
+ghost use Rattle.std.specs.Prelude.{ℕ, ◌≡◌, ◌<◌, ◌≤◌, ◌-◌, ◌+◌, ◌^◌, ◌↔◌, List, IsTrue, length, MatchOption};
+ghost use Rattle.play_machine.specs.declared.call.Call.{Call};
+ghost use Rattle.replay_check.specs.Rule.{Can, CanPeek, IsNext, IsPeek, IsTaken, NoneCan};
+ghost use Rattle.replay_check.specs.Lists.{first_of, left_of, list_of};
+
+use play_machine::{Call, MapLine};
+
+// The next call of a caller.
+fn next_of(lists: &[Vec<Call>], at: &[usize], who: usize) -> Option<Call>
+    requires lists { who < length lists.now }
+    requires at { who < length at.now }
+    ensures { result ≡ first_of (left_of (list_of lists.now) at.now who) }
+{
+    let calls = &lists[who];
+    let place = at[who];
+    if place < calls.len() {
+        Some(calls[place])
+    } else {
+        None
+    }
+}
+
+fn is_peek(call: &Call) -> bool
+    ensures { IsTrue result ↔ IsPeek call.now }
+{
+    matches!(call, Call::PeekCall { .. })
+}
+
+// A caller's next call, where it is possible.
+fn possible(line: &MapLine, lists: &[Vec<Call>], at: &[usize], who: usize) -> Option<Call>
+    requires lists { who < length lists.now }
+    requires at { who < length at.now }
+    ensures { MatchOption result (Can (2 ^ line.now.g) line.now.machine (left_of (list_of lists.now) at.now) who → ⊥)
+        (λ call. (rest : List Call) × IsNext (2 ^ line.now.g) line.now.machine (left_of (list_of lists.now) at.now) who call rest) }
+{
+    match next_of(lists, at, who) {
+        Some(call) => { if line.can(&call) { Some(call) } else { None } }
+        None => None,
+    }
+}
+
+// The player's next call, where it is a peek and is possible.
+fn possible_peek(line: &MapLine, lists: &[Vec<Call>], at: &[usize], player: usize) -> Option<Call>
+    requires lists { player < length lists.now }
+    requires at { player < length at.now }
+    ensures { MatchOption result (CanPeek (2 ^ line.now.g) player line.now.machine (left_of (list_of lists.now) at.now) → ⊥)
+        (λ call. (rest : List Call) × IsNext (2 ^ line.now.g) line.now.machine (left_of (list_of lists.now) at.now) player call rest × IsPeek call) }
+{
+    match possible(line, lists, at, player) {
+        Some(call) => { if is_peek(&call) { Some(call) } else { None } }
+        None => None,
+    }
+}
+
+/// A caller and its next call.
+#[derive(Clone, Copy)]
+pub struct Choice {
+    pub who: usize,
+    pub call: Call,
+}
+
+/// What the rule takes of the lists from these places on: a peek of the player, else a call of the lowest filer that
+/// has a possible one, else a call of the player.
+pub fn pick(line: &MapLine, lists: &[Vec<Call>], at: &[usize], player: usize) -> Option<Choice>
+    requires lists { player < length lists.now }
+    requires at { player < length at.now }
+    ensures { MatchOption result (NoneCan (2 ^ line.now.g) (player + 1) line.now.machine (left_of (list_of lists.now) at.now))
+        (λ p. IsTaken (2 ^ line.now.g) player line.now.machine (left_of (list_of lists.now) at.now) p.who
+        × ((rest : List Call) × IsNext (2 ^ line.now.g) line.now.machine (left_of (list_of lists.now) at.now) p.who p.call rest)) }
+{
+    if let Some(call) = possible_peek(line, lists, at, player) {
+        return Some(Choice { who: player, call });
+    }
+    'filers: for who in 0..player {
+        if let Some(call) = possible(line, lists, at, who) {
+            return Some(Choice { who, call });
+        }
+    }
+    match possible(line, lists, at, player) {
+        Some(call) => Some(Choice { who: player, call }),
+        None => None,
+    }
+}
