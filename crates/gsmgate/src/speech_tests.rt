@@ -66,7 +66,8 @@ fn speech_is_encoded_piece_by_piece(rt: HostRuntime) -> Result<(), Fail> {
     assert_eq!(rt; *one.notes.octets(), *b"frames 1\n".as_slice());
     let filled = ran(alloc, "encode in out", &zeros, &[], &[])?;
     assert_eq!(rt; filled.status, Status::Done);
-    assert_eq!(rt; filled.output.octets()[33..], *ZEROS.as_slice());
+    assert_eq!(rt; filled.output.octets().len(), 66);
+    assert!(rt; filled.output.octets().ends_with(&ZEROS));
     assert_eq!(rt; *filled.notes.octets(), *b"frames 2\n".as_slice());
     let unread = ran(alloc, "encode in out", &zeros, &[50], &[])?;
     assert_eq!(rt; unread.status, Status::ReadFault);
@@ -92,8 +93,8 @@ fn a_journal_is_rendered_to_speech(rt: HostRuntime) -> Result<(), Fail> {
     let played = ran(alloc, "render in out", &octets, &[], &[])?;
     assert_eq!(rt; played.status, Status::Done);
     assert_eq!(rt; played.output.octets().len(), 640);
-    assert_eq!(rt; played.output.octets()[..320], *[0; 320].as_slice());
-    assert_eq!(rt; played.output.octets()[320..], *decoded.output.octets());
+    assert!(rt; played.output.octets().starts_with(&[0; 320]));
+    assert!(rt; played.output.octets().ends_with(decoded.output.octets()));
     assert_eq!(rt; *played.notes.octets(), *b"ticks 1 frames 0 erasures 1 idle 1\n".as_slice());
     Ok(())
 }

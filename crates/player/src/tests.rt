@@ -14,6 +14,11 @@ fn link(alloc: Global, fails: &[u64]) -> Result<MemoryLink, Fail> {
     Ok(MemoryLink::new(alloc, Vec::new(alloc), fails, 4)?)
 }
 
+// Whether the packet has this header, and then the frame of zeros.
+fn is_packet(packet: &[u8], header: &[u8; 12]) -> bool {
+    packet.len() == 45 && packet.starts_with(header) && packet.ends_with(&ZEROS)
+}
+
 #[test]
 fn silence_is_sent_under_numbers_that_wrap(rt: HostRuntime) -> Result<(), Fail> {
     let mut microphone = MemorySource::new(rt.alloc(), &[0; 400], 7, &[])?;
@@ -24,10 +29,8 @@ fn silence_is_sent_under_numbers_that_wrap(rt: HostRuntime) -> Result<(), Fail> 
     assert_eq!(rt; stream.send(&mut microphone, &mut reply), ReturnEnd::Silent);
     assert_eq!(rt; stream.send(&mut microphone, &mut reply), ReturnEnd::Silent);
     assert_eq!(rt; reply.sent_count(), 2);
-    assert_eq!(rt; reply.sent(0)[..12], *b"\x80\x03\xFF\xFF\xFF\xFF\xFF\xFF\0\0\0\x01".as_slice());
-    assert_eq!(rt; reply.sent(0)[12..], *ZEROS.as_slice());
-    assert_eq!(rt; reply.sent(1)[..12], *b"\x80\x03\0\0\0\0\0\x9F\0\0\0\x01".as_slice());
-    assert_eq!(rt; reply.sent(1)[12..], *ZEROS.as_slice());
+    assert!(rt; is_packet(reply.sent(0), b"\x80\x03\xFF\xFF\xFF\xFF\xFF\xFF\0\0\0\x01"));
+    assert!(rt; is_packet(reply.sent(1), b"\x80\x03\0\0\0\0\0\x9F\0\0\0\x01"));
     Ok(())
 }
 
@@ -41,7 +44,7 @@ fn a_fault_loses_the_piece_or_counts_the_packet(rt: HostRuntime) -> Result<(), F
     assert_eq!(rt; stream.send(&mut microphone, &mut reply), ReturnEnd::ReplyFault);
     assert_eq!(rt; stream.send(&mut microphone, &mut reply), ReturnEnd::Sent);
     assert_eq!(rt; reply.sent_count(), 2);
-    assert_eq!(rt; reply.sent(0)[..12], *b"\x80\x03\0\x05\0\0\x03\xE8\0\0\0\x09".as_slice());
-    assert_eq!(rt; reply.sent(1)[..12], *b"\x80\x03\0\x07\0\0\x05\x28\0\0\0\x09".as_slice());
+    assert!(rt; is_packet(reply.sent(0), b"\x80\x03\0\x05\0\0\x03\xE8\0\0\0\x09"));
+    assert!(rt; is_packet(reply.sent(1), b"\x80\x03\0\x07\0\0\x05\x28\0\0\0\x09"));
     Ok(())
 }
