@@ -49,19 +49,6 @@ fn script(alloc: Global, fails: bool) -> Result<Vec<LinkEntry>, Fail> {
     Ok(entries)
 }
 
-// A run over the packets, with a report after five valid ones.
-fn ran<R: Wait>(
-    rt: &R,
-    alloc: Global,
-    link: &mut MemoryLink,
-    journal: &mut MemorySink,
-) -> Result<FilerEnd, Fail> {
-    let line = MapLine::new(alloc, 1, 6)?;
-    let mut side = MapFiler::of(line, 0);
-    let mut filer = Filer::new(3, 1, 5);
-    Ok(filer.run(rt, &mut side, link, journal))
-}
-
 // The journal of the six packets: both calls, five frames accepted and a duplicate, and the end mark.
 fn is_whole(octets: &[u8]) -> bool {
     let front = [
@@ -75,17 +62,47 @@ fn is_whole(octets: &[u8]) -> bool {
         && octets[270] == 0xFF
 }
 
+// What came of a run over the packets, with a report after five valid ones.
+#[derive(Clone, Copy)]
+struct RunEnd {
+    end: FilerEnd,
+    octets: usize,
+    is_whole: bool,
+    sent: usize,
+    is_report: bool,
+}
+
+// A link that fails behind the packets where it is asked to, and whose listed sends fail; a journal whose give with this
+// number fails.
+fn ran<R: Wait>(
+    rt: &R,
+    alloc: Global,
+    fails: bool,
+    sends: &[u64],
+    give: u64,
+) -> Result<RunEnd, Fail> {
+    let mut link = MemoryLink::new(alloc, script(alloc, fails)?, sends, 4)?;
+    let mut journal = MemorySink::new(alloc, 271, &[(give, 0)])?;
+    let line = MapLine::new(alloc, 1, 6)?;
+    let mut side = MapFiler::of(line, 0);
+    let mut filer = Filer::new(3, 1, 5);
+    let end = filer.run(rt, &mut side, &mut link, &mut journal);
+    let sent = link.sent_count();
+    Ok(RunEnd {
+        end,
+        octets: journal.octets().len(),
+        is_whole: is_whole(journal.octets()),
+        sent,
+        is_report: sent == 1 && link.sent(0).starts_with(&REPORT),
+    })
+}
+
 #[test]
 fn a_run_journals_its_datagrams_and_reports_them(rt: HostRuntime) -> Result<(), Fail> {
-    let mut link = MemoryLink::new(rt.alloc(), script(rt.alloc(), false)?, &[], 4)?;
-    let mut journal = MemorySink::new(rt.alloc(), 271, &[])?;
-    assert_eq!(rt;
-        ran(&rt, rt.alloc(), &mut link, &mut journal)?,
-        FilerEnd::Ended
-    );
-    assert!(rt; is_whole(journal.octets()));
-    assert_eq!(rt; link.sent_count(), 1);
-    assert_eq!(rt; link.sent(0), REPORT.as_slice());
+    let run = ran(&rt, rt.alloc(), false, &[], 9)?;
+    assert_eq!(rt; run.end, FilerEnd::Ended);
+    assert!(rt; run.is_whole);
+    assert!(rt; run.is_report);
     Ok(())
 }
 
@@ -93,74 +110,58 @@ fn a_run_journals_its_datagrams_and_reports_them(rt: HostRuntime) -> Result<(), 
 fn each_give_to_the_journal_that_fails_ends_the_run(rt: HostRuntime) -> Result<(), Fail> {
     let sizes = [0, 9, 18, 60, 102, 144, 186, 228, 270];
     for k in 0..9 {
-        let mut link = MemoryLink::new(rt.alloc(), script(rt.alloc(), false)?, &[], 4)?;
-        let mut journal = MemorySink::new(rt.alloc(), 271, &[(k as u64, 0)])?;
-        assert_eq!(rt;
-            ran(&rt, rt.alloc(), &mut link, &mut journal)?,
-            FilerEnd::JournalFault
-        );
-        assert_eq!(rt; journal.octets().len(), sizes[k]);
-        let sent = if k == 8 { 1 } else { 0 };
-        assert_eq!(rt; link.sent_count(), sent);
+        let run = ran(&rt, rt.alloc(), false, &[], k as u64)?;
+        assert_eq!(rt; run.end, FilerEnd::JournalFault);
+        assert_eq!(rt; run.octets, sizes[k]);
+        assert_eq!(rt; run.sent, k / 8);
     }
     Ok(())
 }
 
 #[test]
 fn a_link_that_fails_ends_the_run_behind_the_end_mark(rt: HostRuntime) -> Result<(), Fail> {
-    let mut link = MemoryLink::new(rt.alloc(), script(rt.alloc(), true)?, &[], 4)?;
-    let mut journal = MemorySink::new(rt.alloc(), 271, &[])?;
-    assert_eq!(rt;
-        ran(&rt, rt.alloc(), &mut link, &mut journal)?,
-        FilerEnd::LinkFault
-    );
-    assert!(rt; is_whole(journal.octets()));
-    assert_eq!(rt; link.sent_count(), 1);
-    let mut unsent = MemoryLink::new(rt.alloc(), script(rt.alloc(), false)?, &[0], 4)?;
-    let mut journal = MemorySink::new(rt.alloc(), 271, &[])?;
-    assert_eq!(rt;
-        ran(&rt, rt.alloc(), &mut unsent, &mut journal)?,
-        FilerEnd::LinkFault
-    );
-    assert!(rt; is_whole(journal.octets()));
-    assert_eq!(rt; unsent.sent_count(), 0);
-    let mut link = MemoryLink::new(rt.alloc(), script(rt.alloc(), true)?, &[], 4)?;
-    let mut journal = MemorySink::new(rt.alloc(), 271, &[(8, 0)])?;
-    assert_eq!(rt;
-        ran(&rt, rt.alloc(), &mut link, &mut journal)?,
-        FilerEnd::LinkFault
-    );
-    assert_eq!(rt; journal.octets().len(), 270);
+    let failed = ran(&rt, rt.alloc(), true, &[], 9)?;
+    assert_eq!(rt; failed.end, FilerEnd::LinkFault);
+    assert!(rt; failed.is_whole && failed.is_report);
+    let unsent = ran(&rt, rt.alloc(), false, &[0], 9)?;
+    assert_eq!(rt; unsent.end, FilerEnd::LinkFault);
+    assert!(rt; unsent.is_whole && unsent.sent == 0);
+    let unmarked = ran(&rt, rt.alloc(), true, &[], 8)?;
+    assert_eq!(rt; unmarked.end, FilerEnd::LinkFault);
+    assert_eq!(rt; unmarked.octets, 270);
     Ok(())
+}
+
+// The first turn of a new filer over these entries; the journal has so much room.
+fn turned(alloc: Global, entries: Vec<LinkEntry>, room: usize) -> Result<Turn, Fail> {
+    let mut link = MemoryLink::new(alloc, entries, &[], 0)?;
+    let mut journal = MemorySink::new(alloc, room, &[])?;
+    let line = MapLine::new(alloc, 1, 6)?;
+    let mut side = MapFiler::of(line, 0);
+    let mut filer = Filer::new(3, 1, 5);
+    Ok(filer.turn(&mut side, &mut link, &mut journal))
+}
+
+fn one(alloc: Global, entry: LinkEntry) -> Result<Vec<LinkEntry>, Fail> {
+    let mut entries = Vec::new(alloc);
+    entries.push(entry)?;
+    Ok(entries)
 }
 
 #[test]
 fn a_turn_is_one_receive(rt: HostRuntime) -> Result<(), Fail> {
-    let mut link = MemoryLink::new(rt.alloc(), script(rt.alloc(), true)?, &[], 4)?;
-    let mut journal = MemorySink::new(rt.alloc(), 60, &[])?;
-    let line = MapLine::new(rt.alloc(), 1, 6)?;
-    let mut side = MapFiler::of(line, 0);
-    let mut filer = Filer::new(3, 1, 5);
-    assert_eq!(rt; filer.turn(&mut side, &mut link, &mut journal), Turn::Went);
-    assert_eq!(rt; filer.turn(&mut side, &mut link, &mut journal), Turn::Idle);
-    assert_eq!(rt; journal.octets().len(), 60);
+    let alloc = rt.alloc();
+    assert_eq!(rt; turned(alloc, script(alloc, false)?, 60)?, Turn::Went);
     assert_eq!(rt;
-        filer.turn(&mut side, &mut link, &mut journal),
+        turned(alloc, script(alloc, false)?, 59)?,
         Turn::JournalFault
     );
-    assert_eq!(rt; filer.tally().datagrams, 2);
-    let mut ended = MemoryLink::new(rt.alloc(), Vec::new(rt.alloc()), &[], 0)?;
+    assert_eq!(rt; turned(alloc, one(alloc, LinkEntry::Idle)?, 0)?, Turn::Idle);
     assert_eq!(rt;
-        filer.turn(&mut side, &mut ended, &mut journal),
-        Turn::Ended
-    );
-    let mut script = Vec::new(rt.alloc());
-    script.push(LinkEntry::Fail)?;
-    let mut failing = MemoryLink::new(rt.alloc(), script, &[], 0)?;
-    assert_eq!(rt;
-        filer.turn(&mut side, &mut failing, &mut journal),
+        turned(alloc, one(alloc, LinkEntry::Fail)?, 0)?,
         Turn::LinkFault
     );
+    assert_eq!(rt; turned(alloc, Vec::new(alloc), 0)?, Turn::Ended);
     Ok(())
 }
 
