@@ -30,14 +30,14 @@ pub record Decoding (count : ℕ) (decoder : Kept) (input left before now : Opti
   pub taken : Consumes input left (coded frames)
   pub given : Appends before now (sample_octets samples)
 
-coded-more : (frames : List (List ℕ)) (frame : List ℕ) → coded (frames ++ frame ∷ []) ≡ coded frames ++ frame
+pub coded-more : (frames : List (List ℕ)) (frame : List ℕ) → coded (frames ++ frame ∷ []) ≡ coded frames ++ frame
 coded-more frames frame = flat_map-append (λ (f : List ℕ). f) frames (frame ∷ []) ∙ ap (λ (l : List ℕ). coded frames ++ l) (append-nil frame)
 
-whole-more : (frames : List (List ℕ)) (frame : List ℕ) → AllByRecursion IsFrame frames → IsFrame frame → AllByRecursion IsFrame (frames ++ frame ∷ [])
+pub whole-more : (frames : List (List ℕ)) (frame : List ℕ) → AllByRecursion IsFrame frames → IsFrame frame → AllByRecursion IsFrame (frames ++ frame ∷ [])
 whole-more [] frame all is = (is, tt)
 whole-more (f ∷ frames) frame all is = (all.0, whole-more frames frame all.1 is)
 
-spelled-more : (frames : List (List ℕ)) (fields : List Fields) (frame : List ℕ) (p : Fields) → AreSpelled frames fields → Spells frame p → IsWithinWidths p → AreSpelled (frames ++ frame ∷ []) (fields ++ p ∷ [])
+pub spelled-more : (frames : List (List ℕ)) (fields : List Fields) (frame : List ℕ) (p : Fields) → AreSpelled frames fields → Spells frame p → IsWithinWidths p → AreSpelled (frames ++ frame ∷ []) (fields ++ p ∷ [])
 spelled-more [] [] frame p all spells within = (spells, within, tt)
 spelled-more (f ∷ frames) (q ∷ fields) frame p all spells within = (all.0, all.1, spelled-more frames fields frame p all.2 spells within)
 spelled-more [] (q ∷ fields) frame p all spells within = absurd all
