@@ -7,3 +7,5 @@ pub mod Places
 pub mod Sofar
 pub mod AllLists
 pub mod Numbered
+pub mod MadeSofar
+pub mod Rounds

@@ -3,3 +3,7 @@ pub mod Rule
 pub mod Journals
 pub mod Lists
 pub mod Making
+pub mod Drawn
+pub mod Generator
+pub mod Made
+pub mod Plays
