@@ -9,3 +9,5 @@ pub mod AllLists
 pub mod Numbered
 pub mod Playing
 pub mod Rendered
+pub mod MadeSofar
+pub mod Rounds

@@ -4,3 +4,7 @@ pub mod Journals
 pub mod Lists
 pub mod Making
 pub mod Render
+pub mod Drawn
+pub mod Generator
+pub mod Made
+pub mod Plays

@@ -1,6 +1,6 @@
 // Journals are made of their octets and read back. Expected verdicts are of the rules, or of a search.
 use super::*;
-use gate_io::MemorySource;
+use gate_io::{MemorySink, MemorySource};
 use recorder::{FilerJournal, PlayerJournal};
 use std::alloc::Global;
 use std::test::Fail;
@@ -185,5 +185,25 @@ fn frames_that_came_late_and_early_have_a_history(rt: HostRuntime) -> Result<(),
         Some(Verdict::Legal(order)) => assert_eq!(rt; order.len(), 19),
         _ => assert!(rt; false, "not legal"),
     }
+    Ok(())
+}
+
+#[test]
+fn a_made_script_is_the_same_at_each_run(rt: HostRuntime) -> Result<(), Fail> {
+    let mut one = MemorySink::new(rt.alloc(), 50000, &[])?;
+    let mut two = MemorySink::new(rt.alloc(), 50000, &[])?;
+    match make_script(rt.alloc(), 7, 1000, 4, &mut one)? {
+        Made::Done(plays, tally) => {
+            assert_eq!(rt; plays.ticks, 1000);
+            assert_eq!(rt; plays.idle, 0);
+            assert!(rt; tally.accepted > 0);
+            assert!(rt; tally.late > 0);
+            assert!(rt; tally.beyond > 0);
+        }
+        Made::WriteFault => assert!(rt; false, "the sink failed"),
+    }
+    let _ = make_script(rt.alloc(), 7, 1000, 4, &mut two)?;
+    assert_eq!(rt; one.octets().len(), 44013);
+    assert!(rt; *one.octets() == *two.octets());
     Ok(())
 }

@@ -1,0 +1,18 @@
+-- What one round does to the run of a script.
+use Rattle.std.specs.Prelude.{ℕ, ◌≡◌, ◌^◌, List}
+use Rattle.frame_codec.specs.declared.item.Item.{Item}
+use Rattle.play_machine.specs.declared.reply.FileReply.{FileReply}
+use Rattle.play_machine.specs.declared.call.Call.TheVariants.{FileCall, TickCall}
+use Rattle.play_machine.specs.Machine.{Replies, after}
+use Rattle.recorder.specs.Tallies.{item_counted, reply_counted}
+use Rattle.replay_check.specs.declared.played.Played.{Played}
+
+-- the frame was filed, and the player ticked, with the machine's replies, which were counted
+pub record Plays (caller number : ℕ) (frame : List ℕ) (old new : Played) : Type 0 where
+  pub reply : FileReply
+  pub item : Item
+  pub filed : Replies (2 ^ old.line.g) old.line.machine (FileCall number frame reply)
+  pub ticked : Replies (2 ^ old.line.g) (after old.line.machine (FileCall number frame reply)) (TickCall item)
+  pub line : new.line ≡ record old.line { machine = after (after old.line.machine (FileCall number frame reply)) (TickCall item) }
+  pub items : new.items ≡ item_counted old.items item
+  pub replies : new.replies ≡ reply_counted old.replies reply
