@@ -5,10 +5,12 @@ ghost use Rattle.fixed_arith.specs.Signal.{at};
 ghost use Rattle.frame_codec.specs.declared.params.SubParams.{SubParams};
 ghost use Rattle.frame_codec.specs.Frame.{SubFits};
 ghost use Rattle.rpe_ltp.specs.History.{back_at};
+ghost use Rattle.rpe_ltp.specs.SubFrame.{IsCoded, Continues};
 ghost use Rattle.rpe_ltp.specs.LongTerm.{lag_after, remainder_at, gains, Remembers};
 
 use crate::history::LagHistory;
 use crate::pulses::excitation;
+use crate::sub_frame::codes;
 use fixed_arith::{add, mult_r, sub};
 use frame_codec::SubParams;
 use std::marker::Model;
@@ -25,6 +27,7 @@ pub struct LongTerm {
 
 impl Model for LongTerm {
     ghost use Rattle.std.specs.Prelude.{◌≤◌};
+    ghost use Rattle.rpe_ltp.specs.SubFrame.{IsCoded, Continues};
     ghost use Rattle.rpe_ltp.specs.LongTerm.{Memory};
 
     ghost Value = { Memory };
@@ -61,6 +64,19 @@ impl LongTerm {
         ensures { (k : ℕ) → k < 40 → at result k ≡ remainder_at d.now self.now.history nc bc k }
     {
         remainder(&self.history, nc as usize, GAINS[bc as usize], d)
+    }
+
+    /// The codes of the next sub-frame, from its short-term residual (`d`), each within its width (GSM 06.10 sections 5.2.11 to 5.2.18).
+    pub fn code(&mut self, d: &[i16; 40]) -> SubParams
+        ensures coded { IsCoded d.now self.old.history result }
+        ensures fits { SubFits result }
+
+        // The sub-frames before and this one are one list.
+        ensures goes_on { (subs : List SubParams) (values : List ℤ) → Remembers subs values self.old → Continues (subs ++ result ∷ []) values self.new }
+    {
+        let sub = codes(self, d);
+        self.step(&sub);
+        sub
     }
 
     /// The values (`drp`) of the next sub-frame.
