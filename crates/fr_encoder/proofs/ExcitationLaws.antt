@@ -1,5 +1,5 @@
 -- One sub-frame more of the excitation: what was before stays, and the new one.
-use Rattle.std.proofs.Common.{◌≡◌, ℕ, zero, suc, ◌+◌, ◌-◌, ◌*◌, ◌<◌, ◌≤◌, ℤ, pos, List, [], ◌∷◌, ◌++◌, length, take, drop, refl, sym, ◌∙◌, ap, arith, length-append, length-drop, inl, inr, FitsSigned, w16}
+use Rattle.std.proofs.Common.{◌≡◌, ℕ, ◌+◌, ◌-◌, ◌*◌, ◌<◌, ◌≤◌, ℤ, pos, List, [], ◌∷◌, ◌++◌, length, take, drop, refl, sym, ◌∙◌, ap, arith, length-append, length-drop, inl, inr}
 use Rattle.std.proofs.lemmas.Bool.{cases_lt}
 use Rattle.std.proofs.lemmas.List.{get_or_append_left, get_or-append_right, take-append-le, drop-append-le}
 use Rattle.std.proofs.lemmas.Grind.{get_or_head}
@@ -7,17 +7,10 @@ use Rattle.std.proofs.Math.Seq.{take-length, drop-append_seam}
 use Rattle.fixed_arith.specs.Signal.{at, past}
 use Rattle.frame_codec.specs.declared.params.SubParams.{SubParams}
 use Rattle.rpe_ltp.specs.History.{back_at}
-use Rattle.rpe_ltp.specs.LongTerm.{gains, sub_at, Memory, Remembers}
-use Rattle.fr_encoder.specs.Excitation.{forty, AreBefore, IsExcitation, FitsResidual, Excites}
+use Rattle.rpe_ltp.specs.LongTerm.{sub_at, Memory, Remembers}
+use Rattle.rpe_ltp.specs.SubFrame.{IsCoded, Continues}
+use Rattle.fr_encoder.specs.Excitation.{forty, AreBefore, IsExcitation, Excites}
 use Rattle.fr_encoder.proofs.PieceLaws.{past_reached, past_before}
-
--- each gain is a word
-pub gain_fits : (code : ℕ) → FitsSigned w16 (at gains code)
-gain_fits zero = record { sfits = omega arith }
-gain_fits (suc zero) = record { sfits = omega arith }
-gain_fits (suc (suc zero)) = record { sfits = omega arith }
-gain_fits (suc (suc (suc zero))) = record { sfits = omega arith }
-gain_fits (suc (suc (suc (suc code)))) = record { sfits = omega arith }
 
 -- more values change nothing that stands before
 past_front : (values more : List ℤ) (t n : ℕ) → t < length values + n → past (at (values ++ more)) t n ≡ past (at values) t n
@@ -88,7 +81,7 @@ IsExcitation-front d ds dp more t sub inside reached old = record {
 }
 
 IsExcitation-last : (d ds dp more : List ℤ) (t : ℕ) (subs : List SubParams) (sub : SubParams) (memory : Memory) → length d ≡ t → length dp ≡ t → length ds ≡ 40 → Remembers subs dp memory
-    → FitsResidual ds memory.history sub → IsExcitation (d ++ ds) (dp ++ more) t sub
+    → IsCoded ds memory.history sub → IsExcitation (d ++ ds) (dp ++ more) t sub
 IsExcitation-last d ds dp more t subs sub memory size count ds_size remembers fits = record {
   kept = memory.history;
   e = fits.e;
@@ -102,8 +95,16 @@ IsExcitation-last d ds dp more t subs sub memory size count ds_size remembers fi
       let back : back_at memory.history (sub.nc - k) ≡ past (at (dp ++ more)) (length dp + k) sub.nc =
       back_now subs dp more memory sub.nc k remembers fits.lag.choice.least fits.lag.choice.most small in
       let time : length dp + k ≡ t + k = omega arith in
-      rw (value, ← time, ← back) (fits.difference k small);
-  pulses = fits.pulses;
+      rw (value, ← time, ← back) (fits.left k small);
+  pulses = record {
+    e_size = fits.sizes.0;
+    x_size = fits.sizes.1;
+    weighting = fits.weighted;
+    grid = fits.grid;
+    xm_size = fits.sizes.2;
+    on_grid = fits.chosen;
+    codes = fits.pulses;
+  };
 }
 
 sub_at-front : (subs : List SubParams) (sub : SubParams) (j : ℕ) → j < length subs → sub_at (subs ++ sub ∷ []) j ≡ sub_at subs j
@@ -113,9 +114,9 @@ sub_at-last : (subs : List SubParams) (sub : SubParams) → sub_at (subs ++ sub 
 sub_at-last subs sub =
     get_or-append_right subs (sub ∷ []) (length subs) (length subs) _ refl (omega arith) ∙ get_or_head sub [] (length subs - length subs) _ (omega arith)
 
-pub Excites-more : (d ds : List ℤ) (subs : List SubParams) (sub : SubParams) (old next : Memory) (excites : Excites d subs old) (more : List ℤ) → length ds ≡ 40 → length more ≡ 40
-    → FitsResidual ds old.history sub → Remembers (subs ++ sub ∷ []) (excites.dp ++ more) next → Excites (d ++ ds) (subs ++ sub ∷ []) next
-Excites-more d ds subs sub old next excites more size count fits remembers =
+Excites-more : (d ds : List ℤ) (subs : List SubParams) (sub : SubParams) (old next : Memory) (excites : Excites d subs old) (more : List ℤ) → length ds ≡ 40
+    → IsCoded ds old.history sub → Remembers (subs ++ sub ∷ []) (excites.dp ++ more) next → Excites (d ++ ds) (subs ++ sub ∷ []) next
+Excites-more d ds subs sub old next excites more size coded remembers =
     let total : length (subs ++ sub ∷ []) ≡ length subs + 1 = omega (arith, length-append subs (sub ∷ [])) in
     let dp_size : length excites.dp ≡ 40 * length subs = excites.remembers.solved.count in
     record {
@@ -128,14 +129,12 @@ Excites-more d ds subs sub old next excites more size count fits remembers =
         | inr late ↦
             let here : j ≡ length subs = omega arith in
             rw (here, sub_at-last subs sub)
-            (IsExcitation-last d ds excites.dp more (40 * length subs) subs sub old excites.count dp_size size excites.remembers fits)
+            (IsExcitation-last d ds excites.dp more (40 * length subs) subs sub old excites.count dp_size size excites.remembers coded)
       ];
     }
 
-pub Excites-start : (memory : Memory) → Remembers [] [] memory → Excites [] [] memory
-Excites-start memory remembers = record {
-  dp = [];
-  remembers = remembers;
-  count = refl;
-  each = λ j h. absurd (omega arith);
-}
+pub Excites-next : (d ds : List ℤ) (subs : List SubParams) (sub : SubParams) (old next : Memory) → Excites d subs old → length ds ≡ 40 → IsCoded ds old.history sub
+    → ((values : List ℤ) → Remembers subs values old → Continues (subs ++ sub ∷ []) values next) → Excites (d ++ ds) (subs ++ sub ∷ []) next
+Excites-next d ds subs sub old next excites size coded goes_on =
+    let continues : Continues (subs ++ sub ∷ []) excites.dp next = goes_on excites.dp excites.remembers in
+    Excites-more d ds subs sub old next excites continues.more size coded continues.remembers

@@ -1,6 +1,6 @@
 -- The excitation of coded speech, sub-frame by sub-frame over the time of a whole list (GSM 06.10 sections 5.2.11 to 5.2.18).
 -- A sub-frame has 40 samples. Each value before time 0 is 0.
-use Rattle.std.specs.Prelude.{◌≡◌, ℕ, ◌+◌, ◌-◌, ◌*◌, ◌<◌, ◌≤◌, ℤ, List, length, take, drop}
+use Rattle.std.specs.Prelude.{◌≡◌, ℕ, ◌+◌, ◌*◌, ◌<◌, ◌≤◌, ℤ, List, length, take, drop}
 use Rattle.fixed_arith.specs.Word.{sub_words, mult_r_words}
 use Rattle.fixed_arith.specs.Signal.{at, past}
 use Rattle.frame_codec.specs.declared.params.SubParams.{SubParams}
@@ -38,15 +38,6 @@ pub record IsExcitation (d dp : List ℤ) (t : ℕ) (sub : SubParams) : Type 0 w
   pub before : AreBefore dp t kept
   pub lag : IsLagChoice (forty d t) kept sub.nc sub.bc
   pub difference : (k : ℕ) → k < 40 → at e k ≡ sub_words (at d (t + k)) (mult_r_words (at gains sub.bc) (past (at dp) (t + k) sub.nc))
-  pub pulses : IsPulses e x xm sub
-
--- the same of one sub-frame's forty values, with the 120 values before it
-pub record FitsResidual (d kept : List ℤ) (sub : SubParams) : Type 0 where
-  pub e : List ℤ
-  pub x : List ℤ
-  pub xm : List ℤ
-  pub lag : IsLagChoice d kept sub.nc sub.bc
-  pub difference : (k : ℕ) → k < 40 → at e k ≡ sub_words (at d k) (mult_r_words (at gains sub.bc) (back_at kept (sub.nc - k)))
   pub pulses : IsPulses e x xm sub
 
 -- The sub-frames so far are those of the residual so far, and what they reconstruct is kept as far as the next one needs it.

@@ -2,5 +2,6 @@ pub mod PulseLaws
 pub mod HistoryLaws
 pub mod LongTermLaws
 pub mod LagLaws
+pub mod LaneLaws
 pub mod WeightLaws
 pub mod PulseCodeLaws

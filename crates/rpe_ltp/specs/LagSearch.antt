@@ -6,7 +6,7 @@ use Rattle.fixed_arith.specs.Sums.{sum_below, greatest_of}
 use Rattle.fixed_arith.specs.Signal.{at}
 use Rattle.rpe_ltp.specs.History.{back_at}
 
--- by how many places a residual with this greatest magnitude is shifted down, so that six free digits are left in a word (scal)
+-- by how many places a residual with this greatest magnitude is shifted down, so that at most nine digits are left (scal)
 unfoldable pub lag_scale : ℤ → ℕ
 lag_scale top = if unsigned_abs top == 0 then 0 else 6 - norm_of (unsigned_abs top * 65536)
 

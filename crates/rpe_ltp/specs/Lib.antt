@@ -4,3 +4,4 @@ pub mod LongTerm
 pub mod LagSearch
 pub mod Weighting
 pub mod PulseCodes
+pub mod SubFrame

@@ -1,6 +1,6 @@
--- Long-term synthesis over the time of a whole list of sub-frames: GSM 06.10 section 5.3.2.
-use Rattle.std.specs.Prelude.{◌≡◌, ℕ, zero, suc, ◌*◌, ◌/◌, ◌%◌, ◌<◌, ◌≤◌, ℤ, pos, List, [], ◌∷◌, length, get_or, if◌then◌else◌, nat_le, ◌&&◌}
-use Rattle.fixed_arith.specs.Word.{add_words, mult_r_words}
+-- Long-term analysis, and long-term synthesis over the time of a whole list of sub-frames: GSM 06.10 sections 5.2.12 and 5.3.2.
+use Rattle.std.specs.Prelude.{◌≡◌, ℕ, zero, suc, ◌-◌, ◌*◌, ◌/◌, ◌%◌, ◌<◌, ◌≤◌, ℤ, pos, List, [], ◌∷◌, length, get_or, if◌then◌else◌, nat_le, ◌&&◌}
+use Rattle.fixed_arith.specs.Word.{add_words, sub_words, mult_r_words}
 use Rattle.fixed_arith.specs.Signal.{at, past}
 use Rattle.frame_codec.specs.declared.params.SubParams.{SubParams}
 use Rattle.rpe_ltp.specs.History.{back_at}
@@ -9,6 +9,10 @@ use Rattle.rpe_ltp.specs.Pulses.{excitation_at}
 -- the gain of each code, in units of 1 / 32768 (QLB)
 abbrev pub gains : List ℤ
 gains = pos 3277 ∷ pos 11469 ∷ pos 21299 ∷ pos 32767 ∷ []
+
+-- what the prediction with a lag and a gain code leaves of a sub-frame at its k-th place, over the values before it (e)
+abbrev pub remainder_at : List ℤ → List ℤ → ℕ → ℕ → ℕ → ℤ
+remainder_at d kept lag gain k = sub_words (at d k) (mult_r_words (at gains gain) (back_at kept (lag - k)))
 
 -- the j-th sub-frame of a list
 abbrev pub sub_at : List SubParams → ℕ → SubParams

@@ -7,7 +7,7 @@ ghost use Rattle.rpe_ltp.specs.LagSearch.{lag_scale, lag_scaled, IsFirstGreatest
 
 use crate::history::LagHistory;
 use crate::lag_gain::{gain, level, power};
-use crate::lag_sums::plain_sums;
+use crate::lag_sums::lag_sums;
 use fixed_arith::{greatest, norm_long};
 
 /// The lag (`Nc`, 40 to 120) and the code of its gain (`bc`, 2 bits) for the short-term residual (`d`) of a sub-frame, over the values before it
@@ -20,7 +20,7 @@ pub fn best_lag(d: &[i16; 40], history: &LagHistory) -> (u8, u8)
 {
     let (scaled, scale) = scaled_down(d);
     let kept = widened(history.values());
-    let sums = plain_sums(&scaled, &kept);
+    let sums = lag_sums(&scaled, &kept);
     let (lag, best) = first_greatest(&sums);
     (lag, gain(level(best, scale), power(&kept, lag)))
 }
@@ -109,6 +109,7 @@ fn first_greatest(sums: &[i32; 81]) -> (u8, i32)
 #[cfg(test)]
 mod tests {
     use super::*;
+    use crate::lag_sums::plain_sums;
     use fixed_arith::mult;
 
     /// The next value of a noise.
@@ -192,6 +193,40 @@ mod tests {
             let (d, history) = echo(seed, place, factor, level);
             let found = best_lag(&d, &history);
             assert_eq!(rt; (found.0, found.1), (lag, gain), "seed {seed}");
+        }
+    }
+
+    #[test]
+    fn lanes_and_plain_sums_agree(rt: HostRuntime) {
+        for seed in 0..200u32 {
+            let level = (seed * 163) as i16;
+            let (d, history) = echo(seed, seed as usize, level, 32767);
+            let (scaled, _) = scaled_down(&d);
+            let kept = widened(history.values());
+            assert_eq!(rt;
+                lag_sums(&scaled, &kept),
+                plain_sums(&scaled, &kept),
+                "seed {seed}"
+            );
+        }
+        for (value, other) in [
+            (-32768, -32768),
+            (-32768, 32767),
+            (32767, -32768),
+            (0, 1),
+            (1, -1),
+        ] {
+            let mut history = LagHistory::new();
+            history.push(&[other; 40]);
+            history.push(&[value; 40]);
+            history.push(&[other; 40]);
+            let (scaled, _) = scaled_down(&[value; 40]);
+            let kept = widened(history.values());
+            assert_eq!(rt;
+                lag_sums(&scaled, &kept),
+                plain_sums(&scaled, &kept),
+                "{value} and {other}"
+            );
         }
     }
 }

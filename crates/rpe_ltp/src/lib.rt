@@ -9,6 +9,7 @@ mod lag_sums;
 mod long_term;
 mod pulse_codes;
 mod pulses;
+mod sub_frame;
 mod weighting;
 
 pub use grid::grid_of;

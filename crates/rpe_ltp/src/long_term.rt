@@ -1,15 +1,17 @@
-// Long-term synthesis: GSM 06.10 section 5.3.2.
+// Long-term analysis and synthesis: GSM 06.10 sections 5.2.12 and 5.3.2.
 ghost use Rattle.std.specs.Prelude.{◌≡◌, ◌≤◌, ℕ, ◌<◌, ◌-◌, ◌∷◌, ◌++◌, [], ℤ, pos, List};
-ghost use Rattle.fixed_arith.specs.Word.{add_words, mult_r_words};
+ghost use Rattle.fixed_arith.specs.Word.{add_words, sub_words, mult_r_words};
 ghost use Rattle.fixed_arith.specs.Signal.{at};
 ghost use Rattle.frame_codec.specs.declared.params.SubParams.{SubParams};
 ghost use Rattle.frame_codec.specs.Frame.{SubFits};
 ghost use Rattle.rpe_ltp.specs.History.{back_at};
-ghost use Rattle.rpe_ltp.specs.LongTerm.{lag_after, Remembers};
+ghost use Rattle.rpe_ltp.specs.SubFrame.{IsCoded, Continues};
+ghost use Rattle.rpe_ltp.specs.LongTerm.{lag_after, remainder_at, gains, Remembers};
 
 use crate::history::LagHistory;
 use crate::pulses::excitation;
-use fixed_arith::{add, mult_r};
+use crate::sub_frame::codes;
+use fixed_arith::{add, mult_r, sub};
 use frame_codec::SubParams;
 use std::marker::Model;
 
@@ -25,6 +27,7 @@ pub struct LongTerm {
 
 impl Model for LongTerm {
     ghost use Rattle.std.specs.Prelude.{◌≤◌};
+    ghost use Rattle.rpe_ltp.specs.SubFrame.{IsCoded, Continues};
     ghost use Rattle.rpe_ltp.specs.LongTerm.{Memory};
 
     ghost Value = { Memory };
@@ -45,12 +48,35 @@ impl LongTerm {
         }
     }
 
-    /// The values that a lag reaches.
+    /// The values before the next sub-frame.
     #[inline]
     pub fn history(&self) -> &LagHistory
         ensures { result.now ≡ self.now.history }
     {
         &self.history
+    }
+
+    /// What the long-term prediction at a lag with a gain leaves of the short-term residual (`d`) of the next sub-frame (`e`, GSM 06.10 section 5.2.12).
+    pub fn residual(&self, d: &[i16; 40], nc: u8, bc: u8) -> [i16; 40]
+        requires least { 40 ≤ nc }
+        requires most { nc ≤ 120 }
+        requires gain { bc < 4 }
+        ensures { (k : ℕ) → k < 40 → at result k ≡ remainder_at d.now self.now.history nc bc k }
+    {
+        remainder(&self.history, nc as usize, GAINS[bc as usize], d)
+    }
+
+    /// The codes of the next sub-frame, from its short-term residual (`d`), each within its width (GSM 06.10 sections 5.2.11 to 5.2.18).
+    pub fn code(&mut self, d: &[i16; 40]) -> SubParams
+        ensures coded { IsCoded d.now self.old.history result }
+        ensures fits { SubFits result }
+
+        // The sub-frames before and this one are one list.
+        ensures goes_on { (subs : List SubParams) (values : List ℤ) → Remembers subs values self.old → Continues (subs ++ result ∷ []) values self.new }
+    {
+        let sub = codes(self, d);
+        self.step(&sub);
+        sub
     }
 
     /// The values (`drp`) of the next sub-frame.
@@ -100,6 +126,20 @@ fn sub_frame(history: &LagHistory, lag: usize, gain: i16, pulses: &[i16; 40]) ->
     values
 }
 
+/// What is left of a sub-frame: from each value is taken what the gain makes of the value one lag before.
+#[inline]
+fn remainder(history: &LagHistory, lag: usize, gain: i16, d: &[i16; 40]) -> [i16; 40]
+    requires least { 40 ≤ lag }
+    requires most { lag ≤ 120 }
+    ensures { (k : ℕ) → k < 40 → at result k ≡ sub_words (at d.now k) (mult_r_words gain (back_at history.now (lag - k))) }
+{
+    let mut left = [0; 40];
+    for k in 0..40 {
+        left[k] = sub(d[k], mult_r(gain, history.at(lag - k)));
+    }
+    left
+}
+
 #[cfg(test)]
 mod tests {
     use super::*;
@@ -129,5 +169,36 @@ mod tests {
             });
             assert_eq!(rt; &values[..8], want.as_slice(), "the lag's code {nc}");
         }
+    }
+
+    #[test]
+    fn the_prediction_is_taken_off(rt: HostRuntime) {
+        let xmc = [7, 0, 6, 1, 5, 2, 4, 3, 7, 0, 6, 1, 5];
+        let mut long_term = LongTerm::new();
+        for (mc, nc) in [(0, 40), (1, 40), (2, 120)] {
+            let xmaxc = 40 + mc;
+            long_term.step(&SubParams {
+                nc,
+                bc: 3,
+                mc,
+                xmaxc,
+                xmc,
+            });
+        }
+        // the lag, the code of its gain, and the first values that are left of 1000
+        for (nc, bc, want) in [
+            (40, 0, [1000, 1000, 507, 1000, 1000, 1493, 1000, 1000]),
+            (40, 3, [1000, 1000, -3928, 1000, 1000, 5928, 1000, 1000]),
+            (120, 1, [-411, 1000, 1000, 2411, 1000, 1000, -8, 1000]),
+            (77, 2, [3621, 3912, 1000, -872, -1080, 1000, 2872, 3080]),
+        ] {
+            let left = long_term.residual(&[1000; 40], nc, bc);
+            assert_eq!(rt; &left[..8], want.as_slice(), "lag {nc}");
+        }
+        let low = long_term.residual(&[-32768; 40], 40, 3);
+        assert_eq!(rt; &low[2..6], [-32768, -32768, -32768, -27840].as_slice());
+        let high = long_term.residual(&[32767; 40], 40, 3);
+        assert_eq!(rt; &high[2..6], [27839, 32767, 32767, 32767].as_slice());
+        assert_eq!(rt; long_term.history().at(1), 0);
     }
 }

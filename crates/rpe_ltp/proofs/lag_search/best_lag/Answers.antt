@@ -10,10 +10,10 @@ pub level-requires-clause-small : goal.level-requires-clause-small
 level-requires-clause-small c =
     let best : FitsSigned w32 c.first_greatest-lag.result.1 = search rules in
     let inside : 120 - c.first_greatest-lag.result.0 < 81 = omega (arith, c.first_greatest-lag.ensures.least) in
-    let sum : unsigned_abs (at c.plain_sums-sums.result (120 - c.first_greatest-lag.result.0)) ≤ 40 * 2 ^ 24 =
-    rw (c.plain_sums-sums.ensures (120 - c.first_greatest-lag.result.0) inside) (by_place_small c.scaled_down-scale.result.0 c.widened-kept.result (120 - c.first_greatest-lag.result.0) c.scaled_down-scale.ensures.small c.widened-kept.ensures.words) in
+    let sum : unsigned_abs (at c.lag_sums-sums.result (120 - c.first_greatest-lag.result.0)) ≤ 40 * 2 ^ 24 =
+    rw (c.lag_sums-sums.ensures (120 - c.first_greatest-lag.result.0) inside) (by_place_small c.scaled_down-scale.result.0 c.widened-kept.result (120 - c.first_greatest-lag.result.0) c.scaled_down-scale.ensures.small c.widened-kept.ensures.words) in
     let small : unsigned_abs c.first_greatest-lag.result.1 ≤ 40 * 2 ^ 24 =
-    best_small (λ l. at c.plain_sums-sums.result (120 - l)) c.first_greatest-lag.result.0 c.first_greatest-lag.result.1 (40 * 2 ^ 24) c.first_greatest-lag.ensures sum in
+    best_small (λ l. at c.lag_sums-sums.result (120 - l)) c.first_greatest-lag.result.0 c.first_greatest-lag.result.1 (40 * 2 ^ 24) c.first_greatest-lag.ensures sum in
     simp to_z-of_z small
 
 pub returns-clause-choice : goal.returns-clause-choice
@@ -26,10 +26,10 @@ returns-clause-choice c =
     let level = simp to_z-of_z at c.level.ensures in
     record {
       best = c.first_greatest-lag.result.1;
-      choice = scan_same (λ l. at c.plain_sums-sums.result (120 - l)) (lag_sum (lag_scaled c.args.d.now) c.args.history.now) c.first_greatest-lag.result.0 c.first_greatest-lag.result.1
+      choice = scan_same (λ l. at c.lag_sums-sums.result (120 - l)) (lag_sum (lag_scaled c.args.d.now) c.args.history.now) c.first_greatest-lag.result.0 c.first_greatest-lag.result.1
           (λ l low high.
           let inside : 120 - l < 81 = omega arith in
-          c.plain_sums-sums.ensures (120 - l) inside ∙ place_of_lag c.scaled_down-scale.result.0 c.widened-kept.result l low high
+          c.lag_sums-sums.ensures (120 - l) inside ∙ place_of_lag c.scaled_down-scale.result.0 c.widened-kept.result l low high
           ∙ (rw (c.scaled_down-scale.ensures.values, kept) refl))
           c.first_greatest-lag.ensures;
       coded = told ∙ (rw (level, c.power.ensures, c.scaled_down-scale.ensures.scale, kept) refl);
