@@ -41,6 +41,7 @@ impl Closed {
         requires seat { seat.table_id ≡ table.shared.table_id }
         requires laid { IsLaid table.shared.table_id table.shared.key }
         ensures view { result.view ≡ seat.me.0 }
+        ensures counts { (length result.words ≡ table.shared.table_id.words) × (length result.cells ≡ table.shared.table_id.slots) }
         ensures ends { Ends table.shared.key result }
     {
         let last = Snapshot::of(&seat);

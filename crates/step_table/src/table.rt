@@ -1,5 +1,5 @@
 // The words and cells of a ring, shared by the threads that step on them.
-ghost use Rattle.std.specs.Prelude.{◌≤◌, IfOk, ◌≡◌, ◌≢◌, ◌+◌, ◌^◌, [], ◌∷◌, MatchResult};
+ghost use Rattle.std.specs.Prelude.{◌≤◌, IfOk, ◌≡◌, ◌≢◌, ◌+◌, ◌^◌, [], ◌∷◌, length, MatchResult};
 ghost use Rattle.play_machine.specs.declared.views.Shape.{Shape};
 ghost use Rattle.step_table.specs.Packed.{IsOpening, first_view, Kept};
 ghost use Rattle.step_table.specs.Kinds.{MaySwap, MayLoad, MayExchange, MaySplit, MayJoin, told, left_of, right_of, both_of, word_read};
@@ -165,6 +165,7 @@ impl StepTable {
     pub fn close(self, seat: StepSeat) -> Closed
         requires seat { seat.table_id ≡ self.id }
         ensures view { result.view ≡ seat.me.0 }
+        ensures counts { (length result.words ≡ 2 ^ self.shape.g + self.shape.filers + 3) × (length result.cells ≡ 2 ^ self.shape.g + self.shape.filers + 1) }
         ensures ends { Ends self.shape result }
     {
         let StepTable { table } = self;
