@@ -73,7 +73,7 @@ impl SlotRing {
         ensures known { pass.new.known ≡ merged pass.old.known note.known }
         ensures counted { steps.new ≡ steps.old + 1 }
     {
-        let Note { seat } = note;
-        self.table.join::<Learns, L>(&mut pass.seat, seat, steps);
+        let Note { seat: told } = note;
+        self.table.join::<Learns, L>(&mut pass.seat, told, steps);
     }
 }
