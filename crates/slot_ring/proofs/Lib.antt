@@ -6,3 +6,4 @@ pub mod Pools
 pub mod Reading
 pub mod Listed
 pub mod LeftFrames
+pub mod Stories

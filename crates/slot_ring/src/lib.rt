@@ -28,3 +28,6 @@ pub use pass::{FilerPass, PlayerPass};
 pub use player_side::RingPlayer;
 pub use ring::SlotRing;
 pub use step_table::Steps;
+
+#[cfg(test)]
+mod tests;
