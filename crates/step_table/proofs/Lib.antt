@@ -1,0 +1,11 @@
+pub mod Telling
+pub mod Spelling
+pub mod Ticking
+pub mod Filing
+pub mod Enlisting
+pub mod Leaving
+pub mod Holding
+pub mod Moving
+pub mod Starting
+pub mod Laid
+pub mod Closing

@@ -1,0 +1,4 @@
+pub mod Packed
+pub mod Kinds
+pub mod Ends
+pub mod Inside
