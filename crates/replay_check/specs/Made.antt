@@ -9,7 +9,7 @@ use Rattle.play_machine.specs.declared.call.Call.TheVariants.{FileCall, TickCall
 use Rattle.play_machine.specs.Machine.{opening_machine}
 use Rattle.play_machine.specs.History.{Entry, entry, IsLegal, calls, calls_of}
 use Rattle.recorder.specs.declared.events.ScriptEvent.{ScriptEvent}
-use Rattle.recorder.specs.declared.events.ScriptEvent.TheVariants.{Tick, File}
+use Rattle.recorder.specs.declared.events.ScriptEvent.TheVariants.{Tick, File, Datagram, Beat}
 use Rattle.recorder.specs.declared.tally.PlayTally.{PlayTally}
 use Rattle.recorder.specs.declared.tally.Tally.{Tally}
 use Rattle.recorder.specs.Tallies.{call_items, call_replies, play_tally, reply_tally}
@@ -17,10 +17,12 @@ use Rattle.replay_check.specs.Generator.{made_events, made_script, seed_key}
 use Rattle.replay_check.specs.declared.made.Made.{Made}
 use Rattle.replay_check.specs.declared.made.Made.TheVariants.{Done, WriteFault}
 
--- the calls of an event of a script, whatever is replied
+-- the calls of an event of a script, whatever is replied; the generator makes neither datagrams nor beats
 abbrev pub AreCallsOf : ℕ → ScriptEvent → List Entry → Type 0
 AreCallsOf filers Tick made = (item : Item) × (made ≡ entry filers (TickCall item) ∷ [])
 AreCallsOf filers (File caller number frame) made = (reply : FileReply) × (made ≡ entry caller (FileCall number frame reply) ∷ [])
+AreCallsOf filers (Datagram caller at octets) made = ⊥
+AreCallsOf filers Beat made = ⊥
 
 -- the calls of the events, in the events' order
 abbrev pub AreCalls : ℕ → List ScriptEvent → List Entry → Type 0
