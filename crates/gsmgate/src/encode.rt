@@ -22,7 +22,11 @@ use recorder::RecordFault;
 const PIECE_LIMIT: u32 = 16777216;
 
 // Codes the next piece, and gives its frame.
-fn code_piece<O: Sink>(encoder: &mut Encoder, samples: &[i16; 160], output: &mut O) -> Result<(), Failed>
+fn code_piece<O: Sink>(
+    encoder: &mut Encoder,
+    samples: &[i16; 160],
+    output: &mut O,
+) -> Result<(), Failed>
     ensures coded { (frame : List ℕ) × (p : Fields) × IsFrame frame × Spells frame p × IsWithinWidths p
         × ((before : List ℤ) (frames : List Fields) → Encodes before frames encoder.old → Encodes (before ++ samples.now) (frames ++ p ∷ []) encoder.new)
         × Gives (O.given output.old) (O.given output.new) result frame }

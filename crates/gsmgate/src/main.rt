@@ -9,9 +9,9 @@ mod notes;
 mod offline;
 mod outside;
 mod places;
-mod render;
 mod playback;
 mod refusals;
+mod render;
 mod run;
 mod simulate;
 mod status;
@@ -79,9 +79,8 @@ fn main(rt: HostRuntime) -> ExitCode {
 }
 
 #[cfg(test)]
+mod packet_tests;
+#[cfg(test)]
 mod speech_tests;
-
 #[cfg(test)]
 mod tests;
-#[cfg(test)]
-mod tests_datagrams;

@@ -1,117 +1,142 @@
-ghost use Rattle.std.specs.Prelude.{◌≤◌};
-
-use crate::offline::run_offline;
 use crate::status::Status;
-use gate_io::{MemorySink, MemorySource};
-use std::alloc::{AllocError, Global};
+use crate::tests::{comes_to, octets_of, run_over};
+use std::alloc::Global;
 use std::test::Fail;
 
-// A frame of 160 coded zeros, and the silence frame.
-const ZEROS: [u8; 33] = [
-    0xD8, 0x20, 0xA2, 0xE1, 0x5A, 0x50, 0x00, 0x49, 0x24, 0x92, 0x49, 0x24, 0x50, 0x00, 0x49, 0x24,
-    0x92, 0x49, 0x24, 0x50, 0x00, 0x49, 0x24, 0x92, 0x49, 0x24, 0x50, 0x00, 0x49, 0x24, 0x92, 0x49,
-    0x24,
-];
+#[test]
+fn frames_are_decoded_to_octets(rt: HostRuntime) -> Result<(), Fail> {
+    let alloc = rt.alloc();
+    let octets = octets_of(alloc, "zeros")?;
+    let whole = run_over(alloc, "decode in out", &octets, 5, &[], &[])?;
+    assert!(rt; whole.status == Status::Done && *whole.notes.octets() == *b"frames 1\n".as_slice());
+    assert!(rt;
+        whole.output.octets().len() == 320
+            && whole.output.octets().starts_with(&[8, 0, 0, 0, 0, 0, 8, 0])
+    );
+    Ok(())
+}
 
-const SILENCE: [u8; 33] = [
-    0xDA, 0xA7, 0xAA, 0xA5, 0x1A, 0x50, 0x00, 0x47, 0x1C, 0x71, 0xC7, 0x1C, 0x50, 0x00, 0x47, 0x1C,
-    0x71, 0xC7, 0x1C, 0x50, 0x00, 0x47, 0x1C, 0x71, 0xC7, 0x1C, 0x50, 0x00, 0x47, 0x1C, 0x71, 0xC7,
-    0x1C,
-];
+#[test]
+fn frames_that_are_none_are_refused(rt: HostRuntime) -> Result<(), Fail> {
+    let alloc = rt.alloc();
+    let octets = octets_of(alloc, "zeros D8")?;
+    let cut = run_over(alloc, "decode in out", &octets, 5, &[], &[])?;
+    assert!(rt;
+        cut.status == Status::Input && *cut.notes.octets() == *b"input 0 cut 34\n".as_slice()
+    );
+    let broken = run_over(alloc, "decode in out", &octets, 5, &[], &[(0, 7)])?;
+    assert!(rt; broken.status == Status::WriteFault && broken.output.octets().len() == 7);
+    let other = comes_to(
+        alloc,
+        "decode in out",
+        "C800000000 parts",
+        Status::Input,
+        "",
+        "input 0 field 0\n",
+    )?;
+    let none = comes_to(alloc, "decode in out", "", Status::Done, "", "frames 0\n")?;
+    assert!(rt; other && none);
+    Ok(())
+}
 
-const HEAD: &[u8; 12] = b"GSMGPJ01\x01\x06\x00\x03";
-
-fn words(alloc: Global, line: &str) -> Result<Vec<String>, AllocError> {
-    let mut words = Vec::new(alloc);
-    for word in line.split_whitespace() {
-        words.push(String::from_str(alloc, word)?)?;
+// Speech of so many zeros.
+fn zeros(alloc: Global, count: usize) -> Result<Vec<u8>, Fail> {
+    let mut octets = Vec::new(alloc);
+    for _ in 0..count {
+        octets.extend_from_slice(&[0])?;
     }
-    Ok(words)
+    Ok(octets)
 }
 
-// How a run ended, with what it gave.
-#[derive(Drop)]
-struct Ended {
-    status: Status,
-    output: MemorySink,
-    notes: MemorySink,
-}
-
-// Runs a command over these octets, a piece of seven at a time; a read or a give of the listed number fails.
-fn ran(alloc: Global, line: &str, octets: &[u8], reads: &[u64], gives: &[(u64, usize)]) -> Result<Ended, Fail> {
-    let mut inputs = Vec::new(alloc);
-    inputs.push(MemorySource::new(alloc, octets, 7, reads)?)?;
-    let mut output = MemorySink::new(alloc, 10000, gives)?;
-    let mut notes = MemorySink::new(alloc, 1000, &[])?;
-    let words = words(alloc, line)?;
-    let status = run_offline(alloc, &words, &mut inputs, &mut output, &mut notes);
-    Ok(Ended {
-        status,
-        output,
-        notes,
-    })
+// Whether `encode` codes so many zeros to these frames, in pieces of seven octets.
+fn encodes_to(alloc: Global, count: usize, frames: usize, notes: &str) -> Result<bool, Fail> {
+    let octets = zeros(alloc, count)?;
+    let zero = octets_of(alloc, "zeros")?;
+    let ended = run_over(alloc, "encode in out", &octets, 7, &[], &[])?;
+    Ok(
+        ended.status == Status::Done
+            && ended.output.octets().len() == 33 * frames
+            && (frames == 0 || ended.output.octets().ends_with(zero.as_slice()))
+            && *ended.notes.octets() == *notes.as_bytes(),
+    )
 }
 
 #[test]
 fn speech_is_encoded_piece_by_piece(rt: HostRuntime) -> Result<(), Fail> {
     let alloc = rt.alloc();
-    let zeros = [0; 500];
-    let none = ran(alloc, "encode in out", &[], &[], &[])?;
-    assert_eq!(rt; none.status, Status::Done);
-    assert_eq!(rt; none.output.octets().len(), 0);
-    assert_eq!(rt; *none.notes.octets(), *b"frames 0\n".as_slice());
-    let one = ran(alloc, "encode in out", &zeros[..320], &[], &[])?;
-    assert_eq!(rt; one.status, Status::Done);
-    assert_eq!(rt; *one.output.octets(), *ZEROS.as_slice());
-    assert_eq!(rt; *one.notes.octets(), *b"frames 1\n".as_slice());
-    let filled = ran(alloc, "encode in out", &zeros, &[], &[])?;
-    assert_eq!(rt; filled.status, Status::Done);
-    assert_eq!(rt; filled.output.octets().len(), 66);
-    assert!(rt; filled.output.octets().ends_with(&ZEROS));
-    assert_eq!(rt; *filled.notes.octets(), *b"frames 2\n".as_slice());
-    let unread = ran(alloc, "encode in out", &zeros, &[50], &[])?;
-    assert_eq!(rt; unread.status, Status::ReadFault);
-    assert_eq!(rt; unread.output.octets().len(), 33);
-    let broken = ran(alloc, "encode in out", &zeros, &[], &[(1, 5)])?;
-    assert_eq!(rt; broken.status, Status::WriteFault);
-    assert_eq!(rt; broken.output.octets().len(), 38);
+    let none = encodes_to(alloc, 0, 0, "frames 0\n")?;
+    let one = encodes_to(alloc, 320, 1, "frames 1\n")?;
+    let filled = encodes_to(alloc, 500, 2, "frames 2\n")?;
+    assert!(rt; none && one && filled);
+    let octets = zeros(alloc, 500)?;
+    let unread = run_over(alloc, "encode in out", &octets, 7, &[50], &[])?;
+    assert!(rt; unread.status == Status::ReadFault && unread.output.octets().len() == 33);
+    let broken = run_over(alloc, "encode in out", &octets, 7, &[], &[(1, 5)])?;
+    assert!(rt; broken.status == Status::WriteFault && broken.output.octets().len() == 38);
     Ok(())
 }
 
-// A player's journal of these events.
-fn journal(alloc: Global, events: &[u8]) -> Result<Vec<u8>, AllocError> {
-    let mut octets = HEAD.to_vec(alloc)?;
-    octets.extend_from_slice(events)?;
-    Ok(octets)
+// Whether the speech of a line is 160 zeros and then the decoded frame.
+fn speaks(alloc: Global, line: &str, input: &str, frame: &str, notes: &str) -> Result<bool, Fail> {
+    let input = octets_of(alloc, input)?;
+    let frame = octets_of(alloc, frame)?;
+    let idle = zeros(alloc, 320)?;
+    let decoded = run_over(alloc, "decode in out", &frame, 33, &[], &[])?;
+    let spoken = run_over(alloc, line, &input, 7, &[], &[])?;
+    Ok(
+        spoken.status == Status::Done
+            && spoken.output.octets().len() == 640
+            && spoken.output.octets().starts_with(idle.as_slice())
+            && spoken.output.octets().ends_with(decoded.output.octets())
+            && *spoken.notes.octets() == *notes.as_bytes(),
+    )
 }
 
 #[test]
 fn a_journal_is_rendered_to_speech(rt: HostRuntime) -> Result<(), Fail> {
-    let alloc = rt.alloc();
-    let decoded = ran(alloc, "decode in out", &SILENCE, &[], &[])?;
-    let octets = journal(alloc, &[0x10, 0x12, 0xFF])?;
-    let played = ran(alloc, "render in out", &octets, &[], &[])?;
-    assert_eq!(rt; played.status, Status::Done);
-    assert_eq!(rt; played.output.octets().len(), 640);
-    assert!(rt; played.output.octets().starts_with(&[0; 320]));
-    assert!(rt; played.output.octets().ends_with(decoded.output.octets()));
-    assert_eq!(rt; *played.notes.octets(), *b"ticks 1 frames 0 erasures 1 idle 1\n".as_slice());
+    let spoken = speaks(
+        rt.alloc(),
+        "render in out",
+        "journal 01060003 10 12 FF",
+        "silence",
+        "ticks 1 frames 0 erasures 1 idle 1\n",
+    )?;
+    assert!(rt; spoken);
     Ok(())
+}
+
+#[test]
+fn a_script_is_simulated_to_speech(rt: HostRuntime) -> Result<(), Fail> {
+    let spoken = speaks(
+        rt.alloc(),
+        "simulate --pcm in out",
+        "script 01060000 04 0300 00000000 002D 80030001 000003E8 12345678 zeros 04 FF",
+        "zeros",
+        "ticks 1 frames 1 erasures 0 idle 1
+all datagrams 1 accepted 1 duplicate 0 late 0 beyond 0 refused 0 stranger 0 rtcp 0 empty 0
+",
+    )?;
+    assert!(rt; spoken);
+    Ok(())
+}
+
+// Whether `render` refuses a journal of these events behind so many octets of speech.
+fn is_refused(alloc: Global, events: &str, speech: usize, note: &str) -> Result<bool, Fail> {
+    let octets = octets_of(alloc, events)?;
+    let refused = run_over(alloc, "render in out", &octets, 7, &[], &[])?;
+    Ok(
+        refused.status == Status::Input
+            && refused.output.octets().len() == speech
+            && *refused.notes.octets() == *note.as_bytes(),
+    )
 }
 
 #[test]
 fn a_journal_that_is_none_is_refused(rt: HostRuntime) -> Result<(), Fail> {
     let alloc = rt.alloc();
-    for (events, note, played) in [
-        ([0x12, 0x10, 0xFF], b"input 0 kind 13\n".as_slice(), 320),
-        ([0x10, 0x10, 0x13], b"input 0 cut 15\n".as_slice(), 640),
-        ([0x10, 0x01, 0xFF], b"input 0 kind 13\n".as_slice(), 320),
-    ] {
-        let octets = journal(alloc, &events)?;
-        let refused = ran(alloc, "render in out", &octets, &[], &[])?;
-        assert_eq!(rt; refused.status, Status::Input);
-        assert_eq!(rt; *refused.notes.octets(), *note);
-        assert_eq!(rt; refused.output.octets().len(), played);
-    }
+    let order = is_refused(alloc, "journal 01060003 12 10 FF", 320, "input 0 kind 13\n")?;
+    let cut = is_refused(alloc, "journal 01060003 10 10 13", 640, "input 0 cut 15\n")?;
+    let kind = is_refused(alloc, "journal 01060003 10 01 FF", 320, "input 0 kind 13\n")?;
+    assert!(rt; order && cut && kind);
     Ok(())
 }

@@ -7,68 +7,73 @@ use gate_io::{MemorySink, MemorySource};
 use std::alloc::{AllocError, Global};
 use std::test::Fail;
 
-// The number of the first tick.
-const START: u64 = 4294967296;
-
 // A frame of 160 coded zeros, and the silence frame, behind their first five octets.
-pub const ZEROS: [u8; 5] = [0xD8, 0x20, 0xA2, 0xE1, 0x5A];
+const ZEROS: [u8; 5] = [0xD8, 0x20, 0xA2, 0xE1, 0x5A];
 
-pub const ZERO_PART: [u8; 7] = [0x50, 0x00, 0x49, 0x24, 0x92, 0x49, 0x24];
+const ZERO_PART: [u8; 7] = [0x50, 0x00, 0x49, 0x24, 0x92, 0x49, 0x24];
 
 const SILENCE: [u8; 5] = [0xDA, 0xA7, 0xAA, 0xA5, 0x1A];
 
 const SILENCE_PART: [u8; 7] = [0x50, 0x00, 0x47, 0x1C, 0x71, 0xC7, 0x1C];
 
-const EMPTY_SUMMARY: &[u8] = b"ticks 0 frames 0 erasures 0 idle 0
+const EMPTY_SUMMARY: &str = "ticks 0 frames 0 erasures 0 idle 0
 all datagrams 0 accepted 0 duplicate 0 late 0 beyond 0 refused 0 stranger 0 rtcp 0 empty 0
 ";
 
-// What a script's file has so far.
-#[derive(Drop)]
-pub struct Text {
-    pub octets: Vec<u8>,
+fn put_times(octets: &mut Vec<u8>, part: &[u8], times: usize) -> Result<(), AllocError> {
+    for _ in 0..times {
+        octets.extend_from_slice(part)?;
+    }
+    Ok(())
 }
 
-impl Text {
-    fn new(alloc: Global, magic: &[u8], filers: u8, g: u8, delay: u8) -> Result<Text, AllocError> {
-        let mut octets = magic.to_vec(alloc)?;
-        octets.extend_from_slice(&[filers, g, 0, delay])?;
-        Ok(Text { octets })
+// The value of a hexadecimal digit, in capitals.
+fn digit_value(digit: u8) -> u8 {
+    if digit <= b'9' {
+        digit.wrapping_sub(b'0')
+    } else {
+        digit.wrapping_sub(b'A' - 10)
     }
+}
 
-    pub fn put(&mut self, octets: &[u8]) -> Result<(), AllocError> {
-        self.octets.extend_from_slice(octets)
+fn put_digits(octets: &mut Vec<u8>, digits: &[u8]) -> Result<(), AllocError> {
+    for i in 0..digits.len() / 2 {
+        let high = digit_value(digits[2 * i]);
+        let low = digit_value(digits[2 * i + 1]);
+        octets.extend_from_slice(&[high.wrapping_mul(16).wrapping_add(low)])?;
     }
+    Ok(())
+}
 
-    pub fn frame(&mut self, front: &[u8; 5], part: &[u8; 7]) -> Result<(), AllocError> {
-        self.put(front)?;
-        for _ in 0..4 {
-            self.put(part)?;
+fn put_word(octets: &mut Vec<u8>, word: &str) -> Result<(), AllocError> {
+    match word {
+        "script" => octets.extend_from_slice(b"GSMGSC01"),
+        "journal" => octets.extend_from_slice(b"GSMGPJ01"),
+        "zeros" => {
+            octets.extend_from_slice(&ZEROS)?;
+            put_times(octets, &ZERO_PART, 4)
         }
-        Ok(())
-    }
-
-    fn file(&mut self, caller: u8, number: u64, silence: bool) -> Result<(), AllocError> {
-        self.put(&[2, caller])?;
-        self.put(&number.to_be_bytes())?;
-        if silence {
-            self.frame(&SILENCE, &SILENCE_PART)
-        } else {
-            self.frame(&ZEROS, &ZERO_PART)
+        "silence" => {
+            octets.extend_from_slice(&SILENCE)?;
+            put_times(octets, &SILENCE_PART, 4)
         }
+        "parts" => put_times(octets, &ZERO_PART, 4),
+        "long" => put_times(octets, &[0x80], 2046),
+        digits => put_digits(octets, digits.as_bytes()),
     }
 }
 
-pub fn script(alloc: Global, filers: u8, g: u8, delay: u8) -> Result<Text, AllocError> {
-    Text::new(alloc, b"GSMGSC01", filers, g, delay)
+// The octets that words write: hexadecimal digits, or the name of a magic, of a frame, of a frame's four parts, or of the
+// 2046 octets behind the first two of the longest datagram.
+pub fn octets_of(alloc: Global, text: &str) -> Result<Vec<u8>, AllocError> {
+    let mut octets = Vec::new(alloc);
+    for word in text.split_whitespace() {
+        put_word(&mut octets, word)?;
+    }
+    Ok(octets)
 }
 
-pub fn journal(alloc: Global, filers: u8, g: u8, delay: u8) -> Result<Text, AllocError> {
-    Text::new(alloc, b"GSMGPJ01", filers, g, delay)
-}
-
-// The words of a command line.
-fn words(alloc: Global, line: &str) -> Result<Vec<String>, AllocError> {
+pub fn words_of(alloc: Global, line: &str) -> Result<Vec<String>, AllocError> {
     let mut words = Vec::new(alloc);
     for word in line.split_whitespace() {
         words.push(String::from_str(alloc, word)?)?;
@@ -84,21 +89,22 @@ pub struct Ended {
     pub notes: MemorySink,
 }
 
+// Runs a line over these octets, which come in pieces of this length. The listed reads, and gives of the output, fail.
 pub fn run_over(
     alloc: Global,
     line: &str,
     octets: &[u8],
     piece: usize,
-    read_fails: &[u64],
-    write_fails: &[(u64, usize)],
+    reads: &[u64],
+    gives: &[(u64, usize)],
 ) -> Result<Ended, Fail>
     requires { 1 ≤ piece }
 {
     let mut inputs = Vec::new(alloc);
-    inputs.push(MemorySource::new(alloc, octets, piece, read_fails)?)?;
-    let mut output = MemorySink::new(alloc, 10000, write_fails)?;
+    inputs.push(MemorySource::new(alloc, octets, piece, reads)?)?;
+    let mut output = MemorySink::new(alloc, 10000, gives)?;
     let mut notes = MemorySink::new(alloc, 10000, &[])?;
-    let words = words(alloc, line)?;
+    let words = words_of(alloc, line)?;
     let status = run_offline(alloc, &words, &mut inputs, &mut output, &mut notes);
     Ok(Ended {
         status,
@@ -107,192 +113,186 @@ pub fn run_over(
     })
 }
 
-pub fn simulated(
+// Whether a run in pieces of this length, in which the listed reads and gives fail, ends with this status and these octets
+// and notes.
+fn ends_so(
     alloc: Global,
-    octets: &[u8],
+    line: &str,
+    input: &[u8],
     piece: usize,
-    read_fails: &[u64],
-    write_fails: &[(u64, usize)],
-) -> Result<Ended, Fail>
+    status: Status,
+    output: &[u8],
+    notes: &str,
+) -> Result<bool, Fail>
     requires { 1 ≤ piece }
 {
-    run_over(
-        alloc,
-        "simulate in out",
-        octets,
-        piece,
-        read_fails,
-        write_fails,
+    let ended = run_over(alloc, line, input, piece, &[], &[])?;
+    Ok(
+        ended.status == status
+            && *ended.output.octets() == *output
+            && *ended.notes.octets() == *notes.as_bytes(),
+    )
+}
+
+// Whether a run comes to this status, output and notes, in pieces of one, seven and a thousand octets.
+pub fn comes_to(
+    alloc: Global,
+    line: &str,
+    input: &str,
+    status: Status,
+    output: &str,
+    notes: &str,
+) -> Result<bool, Fail> {
+    let input = octets_of(alloc, input)?;
+    let output = octets_of(alloc, output)?;
+    Ok(
+        ends_so(alloc, line, &input, 1, status, &output, notes)?
+            && ends_so(alloc, line, &input, 7, status, &output, notes)?
+            && ends_so(alloc, line, &input, 1000, status, &output, notes)?,
+    )
+}
+
+// Whether a run octet by octet, in which the listed reads and gives fail, comes to this status and output, with no note.
+pub fn breaks_as(
+    alloc: Global,
+    input: &str,
+    reads: &[u64],
+    gives: &[(u64, usize)],
+    status: Status,
+    output: &str,
+) -> Result<bool, Fail> {
+    let input = octets_of(alloc, input)?;
+    let output = octets_of(alloc, output)?;
+    let ended = run_over(alloc, "simulate in out", &input, 1, reads, gives)?;
+    Ok(
+        ended.status == status
+            && *ended.output.octets() == *output.as_slice()
+            && ended.notes.octets().len() == 0,
     )
 }
 
 #[test]
 fn an_empty_script_gives_an_empty_journal(rt: HostRuntime) -> Result<(), Fail> {
-    let octets = b"GSMGSC01\x01\x06\x00\x03\xFF";
-    let ended = simulated(rt.alloc(), octets, 1, &[], &[])?;
-    assert_eq!(rt; ended.status, Status::Done);
-    assert_eq!(rt;
-        *ended.output.octets(),
-        *b"GSMGPJ01\x01\x06\x00\x03\xFF".as_slice()
-    );
-    assert_eq!(rt; *ended.notes.octets(), *EMPTY_SUMMARY);
+    let came = comes_to(
+        rt.alloc(),
+        "simulate in out",
+        "script 01060003 FF",
+        Status::Done,
+        "journal 01060003 FF",
+        EMPTY_SUMMARY,
+    )?;
+    assert!(rt; came);
     Ok(())
 }
 
 #[test]
 fn one_frame_of_two_filers_is_played_once(rt: HostRuntime) -> Result<(), Fail> {
-    let alloc = rt.alloc();
-    let mut input = script(alloc, 2, 6, 3)?;
-    input.file(0, START, false)?;
-    input.file(1, START, true)?;
-    input.put(&[1, 0xFF])?;
-    let mut wanted = journal(alloc, 2, 6, 3)?;
-    wanted.put(&[0x13])?;
-    wanted.frame(&ZEROS, &ZERO_PART)?;
-    wanted.put(&[0xFF])?;
-    for piece in [1, 7, 1000] {
-        let ended = simulated(alloc, &input.octets, piece, &[], &[])?;
-        assert_eq!(rt; ended.status, Status::Done);
-        assert_eq!(rt; *ended.output.octets(), *wanted.octets.as_slice());
-        assert_eq!(rt;
-            *ended.notes.octets(),
-            *b"1 duplicate 4294967296
+    let came = comes_to(
+        rt.alloc(),
+        "simulate in out",
+        "script 02060003 0200 0000000100000000 zeros 0201 0000000100000000 silence 01 FF",
+        Status::Done,
+        "journal 02060003 13 zeros FF",
+        "1 duplicate 4294967296
 ticks 1 frames 1 erasures 0 idle 0
 all datagrams 0 accepted 1 duplicate 1 late 0 beyond 0 refused 0 stranger 0 rtcp 0 empty 0
-"
-                .as_slice()
-        );
-    }
+",
+    )?;
+    assert!(rt; came);
     Ok(())
 }
 
 #[test]
 fn a_ring_of_one_slot_takes_one_frame_a_tick(rt: HostRuntime) -> Result<(), Fail> {
-    let alloc = rt.alloc();
-    let mut input = script(alloc, 1, 0, 0)?;
-    input.file(0, START, false)?;
-    input.file(0, START + 1, false)?;
-    input.put(&[1])?;
-    input.file(0, START, false)?;
-    input.file(0, START + 1, true)?;
-    input.put(&[1, 1, 0xFF])?;
-    let mut wanted = journal(alloc, 1, 0, 0)?;
-    wanted.put(&[0x13])?;
-    wanted.frame(&ZEROS, &ZERO_PART)?;
-    wanted.put(&[0x13])?;
-    wanted.frame(&SILENCE, &SILENCE_PART)?;
-    wanted.put(&[0x12, 0xFF])?;
-    let ended = simulated(alloc, &input.octets, 1000, &[], &[])?;
-    assert_eq!(rt; ended.status, Status::Done);
-    assert_eq!(rt; *ended.output.octets(), *wanted.octets.as_slice());
-    assert_eq!(rt;
-        *ended.notes.octets(),
-        *b"0 beyond 4294967297 4294967296
+    let came = comes_to(
+        rt.alloc(),
+        "simulate in out",
+        "script 01000000 0200 0000000100000000 zeros 0200 0000000100000001 zeros 01
+         0200 0000000100000000 zeros 0200 0000000100000001 silence 01 01 FF",
+        Status::Done,
+        "journal 01000000 13 zeros 13 silence 12 FF",
+        "0 beyond 4294967297 4294967296
 0 late 4294967296 4294967297
 ticks 3 frames 2 erasures 1 idle 0
 all datagrams 0 accepted 2 duplicate 0 late 1 beyond 1 refused 0 stranger 0 rtcp 0 empty 0
-"
-            .as_slice()
-    );
+",
+    )?;
+    assert!(rt; came);
     Ok(())
 }
 
 #[test]
 fn the_window_has_its_bounds(rt: HostRuntime) -> Result<(), Fail> {
-    let alloc = rt.alloc();
-    let mut input = script(alloc, 1, 6, 0)?;
-    input.file(0, START + 63, false)?;
-    input.file(0, START + 64, false)?;
-    input.file(0, START - 1, false)?;
-    input.put(&[0xFF])?;
-    let ended = simulated(alloc, &input.octets, 1000, &[], &[])?;
-    assert_eq!(rt;
-        *ended.notes.octets(),
-        *b"0 beyond 4294967360 4294967296
+    let came = comes_to(
+        rt.alloc(),
+        "simulate in out",
+        "script 01060000 0200 000000010000003F zeros 0200 0000000100000040 zeros 0200 00000000FFFFFFFF zeros FF",
+        Status::Done,
+        "journal 01060000 FF",
+        "0 beyond 4294967360 4294967296
 0 late 4294967295 4294967359
 ticks 0 frames 0 erasures 0 idle 0
 all datagrams 0 accepted 1 duplicate 0 late 1 beyond 1 refused 0 stranger 0 rtcp 0 empty 0
-"
-            .as_slice()
-    );
+",
+    )?;
+    assert!(rt; came);
     Ok(())
 }
 
-// Whether the octets are refused, with this line in the notes.
-fn is_refused(alloc: Global, octets: &[u8], line: &str) -> Result<bool, Fail> {
-    let ended = simulated(alloc, octets, 3, &[], &[])?;
-    Ok(ended.status == Status::Input && *ended.notes.octets() == *line.as_bytes())
+// Whether `simulate` refuses the octets, with this output and note.
+fn is_refused(alloc: Global, input: &str, output: &str, note: &str) -> Result<bool, Fail> {
+    comes_to(alloc, "simulate in out", input, Status::Input, output, note)
 }
 
 #[test]
 fn the_first_fault_is_noted_with_its_place(rt: HostRuntime) -> Result<(), Fail> {
     let alloc = rt.alloc();
-    let mut unknown = script(alloc, 1, 6, 3)?;
-    unknown.put(&[9])?;
-    let mut stranger = script(alloc, 1, 6, 3)?;
-    stranger.file(1, START, false)?;
-    let mut cut = script(alloc, 1, 6, 3)?;
-    cut.put(&[1, 2, 0])?;
-    assert!(rt; is_refused(alloc, &unknown.octets, "input 0 kind 12\n")?);
-    assert!(rt; is_refused(alloc, &stranger.octets, "input 0 field 13\n")?);
-    assert!(rt; is_refused(alloc, b"\x00", "input 0 magic\n")?);
-    assert!(rt; is_refused(alloc, b"", "input 0 cut 0\n")?);
-    assert!(rt; is_refused(alloc, &cut.octets, "input 0 cut 15\n")?);
-    let ended = simulated(alloc, &cut.octets, 3, &[], &[])?;
-    assert_eq!(rt;
-        *ended.output.octets(),
-        *b"GSMGPJ01\x01\x06\x00\x03\x12".as_slice()
-    );
+    let none = is_refused(alloc, "", "", "input 0 cut 0\n")?;
+    let magic = is_refused(alloc, "00", "", "input 0 magic\n")?;
+    let kind = is_refused(
+        alloc,
+        "script 01060003 09",
+        "journal 01060003",
+        "input 0 kind 12\n",
+    )?;
+    assert!(rt; none && magic && kind);
+    let field = is_refused(
+        alloc,
+        "script 01060003 0201 0000000100000000 zeros",
+        "journal 01060003",
+        "input 0 field 13\n",
+    )?;
+    let cut = is_refused(
+        alloc,
+        "script 01060003 01 0200",
+        "journal 01060003 12",
+        "input 0 cut 15\n",
+    )?;
+    assert!(rt; field && cut);
     Ok(())
 }
 
 #[test]
 fn a_fault_in_mid_stream_ends_the_run_there(rt: HostRuntime) -> Result<(), Fail> {
     let alloc = rt.alloc();
-    let mut input = script(alloc, 1, 6, 3)?;
-    input.put(&[1, 1, 1, 0xFF])?;
-    let read = simulated(alloc, &input.octets, 1, &[14], &[])?;
-    assert_eq!(rt; read.status, Status::ReadFault);
-    assert_eq!(rt;
-        *read.output.octets(),
-        *b"GSMGPJ01\x01\x06\x00\x03\x12\x12".as_slice()
-    );
-    assert_eq!(rt; read.notes.octets().len(), 0);
-    let write = simulated(alloc, &input.octets, 1, &[], &[(2, 0)])?;
-    assert_eq!(rt; write.status, Status::WriteFault);
-    assert_eq!(rt;
-        *write.output.octets(),
-        *b"GSMGPJ01\x01\x06\x00\x03\x12".as_slice()
-    );
-    Ok(())
-}
-
-#[test]
-fn frames_are_decoded_to_octets(rt: HostRuntime) -> Result<(), Fail> {
-    let alloc = rt.alloc();
-    let mut frame = Text {
-        octets: Vec::new(alloc),
-    };
-    frame.frame(&ZEROS, &ZERO_PART)?;
-    let whole = run_over(alloc, "decode in out", &frame.octets, 5, &[], &[])?;
-    assert_eq!(rt; whole.status, Status::Done);
-    assert_eq!(rt; *whole.notes.octets(), *b"frames 1\n".as_slice());
-    assert_eq!(rt; whole.output.octets().len(), 320);
-    assert!(rt; whole.output.octets().starts_with(&[8, 0, 0, 0, 0, 0, 8, 0]));
-    frame.put(&[0xD8])?;
-    let cut = run_over(alloc, "decode in out", &frame.octets, 5, &[], &[])?;
-    assert_eq!(rt; cut.status, Status::Input);
-    assert_eq!(rt; *cut.notes.octets(), *b"input 0 cut 34\n".as_slice());
-    assert_eq!(rt; cut.output.octets().len(), 320);
-    let other = run_over(alloc, "decode in out", &[0xC8; 33], 33, &[], &[])?;
-    assert_eq!(rt; other.status, Status::Input);
-    assert_eq!(rt; *other.notes.octets(), *b"input 0 field 0\n".as_slice());
-    let none = run_over(alloc, "decode in out", &[], 1, &[], &[])?;
-    assert_eq!(rt; none.status, Status::Done);
-    assert_eq!(rt; *none.notes.octets(), *b"frames 0\n".as_slice());
-    let broken = run_over(alloc, "decode in out", &frame.octets, 5, &[], &[(0, 7)])?;
-    assert_eq!(rt; broken.status, Status::WriteFault);
-    assert_eq!(rt; broken.output.octets().len(), 7);
+    let input = "script 01060003 010101 FF";
+    let read = breaks_as(
+        alloc,
+        input,
+        &[14],
+        &[],
+        Status::ReadFault,
+        "journal 01060003 1212",
+    )?;
+    let write = breaks_as(
+        alloc,
+        input,
+        &[],
+        &[(2, 0)],
+        Status::WriteFault,
+        "journal 01060003 12",
+    )?;
+    assert!(rt; read && write);
     Ok(())
 }
 
@@ -300,13 +300,11 @@ fn frames_are_decoded_to_octets(rt: HostRuntime) -> Result<(), Fail> {
 fn other_words_are_refused(rt: HostRuntime) -> Result<(), Fail> {
     let alloc = rt.alloc();
     for line in ["simulat a b", "simulate a -", ""] {
-        let words = words(alloc, line)?;
-        let mut inputs: Vec<MemorySource> = Vec::new(alloc);
-        let mut output = MemorySink::new(alloc, 100, &[])?;
-        let mut notes = MemorySink::new(alloc, 100, &[])?;
-        let status = run_offline(alloc, &words, &mut inputs, &mut output, &mut notes);
-        assert_eq!(rt; status, Status::Usage);
-        assert_eq!(rt; *notes.octets(), *b"usage\n".as_slice());
+        let ended = run_over(alloc, line, &[], 1, &[], &[])?;
+        assert!(rt;
+            ended.status == Status::Usage && *ended.notes.octets() == *b"usage\n".as_slice()
+        );
+        let words = words_of(alloc, line)?;
         assert!(rt; matches!(addresses(alloc, &words), Err(Status::Usage)));
     }
     Ok(())
@@ -315,24 +313,15 @@ fn other_words_are_refused(rt: HostRuntime) -> Result<(), Fail> {
 #[test]
 fn a_line_names_its_places(rt: HostRuntime) -> Result<(), Fail> {
     let alloc = rt.alloc();
-    let words = words(alloc, "simulate calls played")?;
+    let words = words_of(alloc, "simulate calls played")?;
     match addresses(alloc, &words) {
         Ok(places) => {
-            assert!(rt; !places.serve);
+            assert!(rt; !places.serve && places.ticks == 0);
             assert_eq!(rt; places.inputs.len(), 1);
             assert_eq!(rt; places.inputs[0].as_str(), "calls");
             assert_eq!(rt; places.output.as_str(), "played");
-            assert_eq!(rt; places.links.len() + places.journals.len(), 0);
-            assert_eq!(rt; places.ticks, 0);
         }
         Err(_) => assert!(rt; false),
     }
-    let mut inputs: Vec<MemorySource> = Vec::new(alloc);
-    let mut output = MemorySink::new(alloc, 100, &[])?;
-    let mut notes = MemorySink::new(alloc, 100, &[])?;
-    assert_eq!(rt;
-        run_offline(alloc, &words, &mut inputs, &mut output, &mut notes),
-        Status::Usage
-    );
     Ok(())
 }
