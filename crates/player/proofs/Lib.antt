@@ -1,3 +1,4 @@
+mod Beating
 mod Samples
 mod Streaming
 mod Returned
