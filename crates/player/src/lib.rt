@@ -6,12 +6,14 @@ mod found;
 mod pieces;
 mod player;
 mod return_stream;
+mod run;
 
 pub use beat::Beat;
 pub use pieces::take_piece;
 pub use player::Player;
 pub use recorder::PlayTally;
 pub use return_stream::{ReturnEnd, ReturnStream};
+pub use run::PlayerEnd;
 
 #[cfg(test)]
 mod tests;

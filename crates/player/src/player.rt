@@ -22,11 +22,14 @@ pub struct Player {
 }
 
 impl Model for Player {
+    ghost use Rattle.std.specs.Prelude.{◌≤◌};
     ghost use Rattle.player.specs.Beats.{Playing};
 
     ghost Value = { Playing };
 
     ghost view = { λ p. record { voice = p.voice; stream = p.stream; tally = p.tally; opened = p.opened; made = p.made; ticks = p.ticks } };
+
+    ghost invariant = { λ p. p.ticks ≤ 16000000 };
 }
 
 impl Player {
