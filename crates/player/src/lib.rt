@@ -16,4 +16,6 @@ pub use return_stream::{ReturnEnd, ReturnStream};
 pub use run::PlayerEnd;
 
 #[cfg(test)]
+mod player_tests;
+#[cfg(test)]
 mod tests;
