@@ -1,13 +1,12 @@
 -- Beats, one after the other, and how a run ends behind them.
-use Rattle.std.proofs.Common.{◌≡◌, ℕ, zero, suc, ◌+◌, ◌≤◌, List, [], ◌∷◌, ◌++◌, take, Option, Result, Ok, Err, inl, inr, refl, sym, ap, subst, ◌∙◌, arith}
+use Rattle.std.proofs.Common.{◌≡◌, ℕ, zero, suc, ◌+◌, ◌≤◌, List, [], ◌∷◌, take, Option, Result, Ok, Err, inl, inr, refl, sym, subst, ◌∙◌, arith}
 use Rattle.std.specs.Io.KnownBytes.{Appends}
 use Rattle.gate_base.specs.Faults.{HasCause, Rose}
-use Rattle.gate_io.specs.Flow.{AppendsPart, Gives}
+use Rattle.gate_io.specs.Flow.{Gives}
 use Rattle.play_machine.specs.declared.call.Call.{Call}
 use Rattle.recorder.specs.Files.{end_mark}
 use Rattle.player.specs.declared.beat.Beat.TheVariants as beat
 use Rattle.player.specs.declared.run.PlayerEnd.{PlayerEnd}
-use Rattle.player.specs.declared.run.PlayerEnd.TheVariants as ended
 use Rattle.player.specs.Beats.{Beats, Standing}
 use Rattle.player.specs.PlayerRuns.{Marked, Offered, PlaysOn, Stopped, with_written}
 

@@ -34,7 +34,15 @@ fn an_idle_beat_and_then_a_base_and_a_tick(rt: HostRuntime) -> Result<(), Fail> 
     assert_eq!(rt; speaker.octets().len(), 640);
     assert!(rt; speaker.octets().starts_with(&[0; 320]));
     assert!(rt; journal.octets() == b"\x10\x11\0\0\x03\xE8\x12".as_slice());
-    assert_eq!(rt; tally, PlayTally { ticks: 1, frames: 0, erasures: 1, idle: 1 });
+    assert_eq!(rt;
+        tally,
+        PlayTally {
+            ticks: 1,
+            frames: 0,
+            erasures: 1,
+            idle: 1
+        }
+    );
     assert_eq!(rt; sent, 2);
     Ok(())
 }
@@ -47,7 +55,15 @@ fn a_speaker_that_fails_leaves_the_journal(rt: HostRuntime) -> Result<(), Fail> 
     assert_eq!(rt; beats, [Beat::Played, Beat::SpeakerFault]);
     assert_eq!(rt; speaker.octets().len(), 327);
     assert!(rt; journal.octets() == b"\x10".as_slice());
-    assert_eq!(rt; tally, PlayTally { ticks: 1, frames: 0, erasures: 1, idle: 1 });
+    assert_eq!(rt;
+        tally,
+        PlayTally {
+            ticks: 1,
+            frames: 0,
+            erasures: 1,
+            idle: 1
+        }
+    );
     assert_eq!(rt; sent, 1);
     Ok(())
 }
@@ -104,7 +120,11 @@ fn run_of(
 
 #[test]
 fn a_run_ends_with_its_clock_or_its_beats(rt: HostRuntime) -> Result<(), Fail> {
-    for (ticks, idle, text) in [(0, 0, &b"\xFF"[..]), (2, 2, b"\x10\x10\xFF"), (9, 3, b"\x10\x10\x10\xFF")] {
+    for (ticks, idle, text) in [
+        (0, 0, &b"\xFF"[..]),
+        (2, 2, b"\x10\x10\xFF"),
+        (9, 3, b"\x10\x10\x10\xFF"),
+    ] {
         let mut speaker = MemorySink::new(rt.alloc(), 1000, &[])?;
         let mut journal = MemorySink::new(rt.alloc(), 100, &[])?;
         let ran = run_of(rt.alloc(), ticks, &mut speaker, &mut journal)?;

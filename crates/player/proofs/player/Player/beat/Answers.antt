@@ -41,9 +41,9 @@ returns-clause-beats g c =
       | in-ReplyFault w ↦ w.result-is ∙ ap beat_of (sym w.in-ReplyFault.is)
     ] in
     subst (λ (e : Beat). Beats g.S.PlayerSide.did
-        (standing c.args.self.now c.args.side.now (g.S.PlayerSide.position c.args.side.now) (g.O.Sink.given c.args.speaker.now) (g.J.Sink.given c.args.journal.now) (g.I.Source.left c.args.microphone.now) (g.P.Link.log c.args.reply.now))
-        (standing (record { voice = c.speak.new.voice; stream = c.send.new.self; tally = c.item.new.self; opened = c.opens-self-inside.result; made = inside.made + 1; ticks = inside.ticks })
-          c.look-found.new.side (g.S.PlayerSide.position c.look-found.new.side) (g.O.Sink.given c.speak.new.speaker) (g.J.Sink.given c.write_found.new.journal) (g.I.Source.left c.send.new.microphone) (g.P.Link.log c.send.new.reply)) e)
+    (standing c.args.self.now c.args.side.now (g.S.PlayerSide.position c.args.side.now) (g.O.Sink.given c.args.speaker.now) (g.J.Sink.given c.args.journal.now) (g.I.Source.left c.args.microphone.now) (g.P.Link.log c.args.reply.now))
+    (standing (record { voice = c.speak.new.voice; stream = c.send.new.self; tally = c.item.new.self; opened = c.opens-self-inside.result; made = inside.made + 1; ticks = inside.ticks })
+    c.look-found.new.side (g.S.PlayerSide.position c.look-found.new.side) (g.O.Sink.given c.speak.new.speaker) (g.J.Sink.given c.write_found.new.journal) (g.I.Source.left c.send.new.microphone) (g.P.Link.log c.send.new.reply)) e)
     (sym end-is)
     (beat-is g.S.PlayerSide.did _ _ was (beat_of r) found c.item_of_found-item.result spoken.0 c.self.view_is c.item_of_found-item.ensures
     c.look-found.ensures.looks c.look-found.ensures.side c.look-found.ensures.position spoken.3 spoken.2 c.item.ensures c.opens-self-inside.ensures refl refl

@@ -1,4 +1,4 @@
-use Rattle.std.proofs.Common.{◌≡◌, ◌≤◌, ap, ◌∙◌, refl, arith}
+use Rattle.std.proofs.Common.{◌≤◌, ap, ◌∙◌, refl, arith}
 use Rattle.player.specs.Beats.{Playing, standing}
 use Rattle.player.proofs.Running.{plays-more, plays-none}
 use Rattle.player.proofs.player.Player.play_on.Goals as goal
@@ -34,10 +34,10 @@ loop-self-preserved g c =
     let mic : g.I.Source.faults c.args.microphone.now ≤ g.I.Source.faults c.beat.new.microphone = omega (arith, inv.8, e.mic_later) in
     let reply : g.P.Link.faults c.args.reply.now ≤ g.P.Link.faults c.beat.new.reply = omega (arith, inv.9, e.reply_later) in (
       plays-more g.S.PlayerSide.did c.loop-self.self.made c.beat.new.self.made
-        (standing c.args.self.now c.args.side.now (g.S.PlayerSide.position c.args.side.now) (g.O.Sink.given c.args.speaker.now) (g.J.Sink.given c.args.journal.now) (g.I.Source.left c.args.microphone.now) (g.P.Link.log c.args.reply.now))
-        (standing c.loop-self.self c.loop-self.side (g.S.PlayerSide.position c.loop-self.side) (g.O.Sink.given c.loop-self.speaker) (g.J.Sink.given c.loop-self.journal) (g.I.Source.left c.loop-self.microphone) (g.P.Link.log c.loop-self.reply))
-        (standing c.beat.new.self c.beat.new.side (g.S.PlayerSide.position c.beat.new.side) (g.O.Sink.given c.beat.new.speaker) (g.J.Sink.given c.beat.new.journal) (g.I.Source.left c.beat.new.microphone) (g.P.Link.log c.beat.new.reply))
-        e.made inv.0 c.in-Played.ensures.beats,
+          (standing c.args.self.now c.args.side.now (g.S.PlayerSide.position c.args.side.now) (g.O.Sink.given c.args.speaker.now) (g.J.Sink.given c.args.journal.now) (g.I.Source.left c.args.microphone.now) (g.P.Link.log c.args.reply.now))
+          (standing c.loop-self.self c.loop-self.side (g.S.PlayerSide.position c.loop-self.side) (g.O.Sink.given c.loop-self.speaker) (g.J.Sink.given c.loop-self.journal) (g.I.Source.left c.loop-self.microphone) (g.P.Link.log c.loop-self.reply))
+          (standing c.beat.new.self c.beat.new.side (g.S.PlayerSide.position c.beat.new.side) (g.O.Sink.given c.beat.new.speaker) (g.J.Sink.given c.beat.new.journal) (g.I.Source.left c.beat.new.microphone) (g.P.Link.log c.beat.new.reply))
+          e.made inv.0 c.in-Played.ensures.beats,
       omega (arith, c.in-Tick.ensures.waits.0, inv.1, e.made),
       e.most ∙ inv.2,
       omega (arith, e.made, e.most, c.loop-self-test.true, made, ticks),

@@ -1,4 +1,4 @@
-use Rattle.std.proofs.Common.{◌≡◌, ◌≤◌, ◌+◌, ◌-◌, ◌^◌, ℕ}
+use Rattle.std.proofs.Common.{◌≡◌, ◌≤◌, ◌+◌, ◌-◌, ◌^◌}
 use Rattle.player.specs.Beats.{standing}
 use Rattle.player.specs.PlayerRuns.{PlaysOn}
 use Rattle.player.proofs.player.Player.play_on.Given as goal
