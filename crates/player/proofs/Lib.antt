@@ -1,3 +1,5 @@
+mod Beating
+mod Running
 mod Samples
 mod Streaming
 mod Returned

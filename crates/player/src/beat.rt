@@ -1,0 +1,97 @@
+// One beat of a player.
+ghost use Rattle.std.specs.Prelude.{◌≡◌, ◌≤◌, ◌<◌, ◌+◌, ◌^◌, ◌++◌, ◌∷◌, [], ℕ, ℤ, List, length};
+ghost use Rattle.gate_base.specs.Faults.{HasCause, Rose};
+ghost use Rattle.gate_io.specs.Flow.{Gives};
+ghost use Rattle.frame_codec.specs.declared.item.Item.{Item};
+ghost use Rattle.substitution.specs.Heard.{Voices, sample_octets};
+ghost use Rattle.player.specs.Beats.{Beats, standing};
+ghost use Rattle.player.specs.declared.beat.Beat.{Beat};
+
+use crate::found::{item_of_found, look, opens, write_found};
+use crate::player::Player;
+use crate::return_stream::ReturnEnd;
+use byteorder::{ByteOrder, LittleEndian};
+use frame_codec::Item;
+use gate_io::{Failed, Link, Sink, Source};
+use play_machine::PlayerSide;
+use substitution::Voice;
+
+/// What came of a beat.
+#[derive(Clone, Copy, Debug, PartialEq, Eq)]
+pub enum Beat {
+    /// All of it was done. A packet was sent, or the microphone has ended.
+    Played,
+    /// The speaker failed. Nothing was journaled, and the microphone was left as it was.
+    SpeakerFault,
+    /// The journal failed behind the speaker. The microphone was left as it was.
+    JournalFault,
+    /// The microphone failed. What came of its piece is lost, and nothing was sent.
+    MicFault,
+    /// The reply link failed. The packet counts as sent.
+    ReplyFault,
+}
+
+impl Player {
+    /// Makes a beat, of 20 ms: it asks the side, gives 320 octets to the speaker in one give (160 samples of 16 bits
+    /// at 8 kHz, the low octet first), gives the events to the journal, each in one give, and sends the next piece
+    /// of the microphone, in this order. A fault ends the beat. All calls on the side are counted.
+    pub fn beat<S: PlayerSide, I: Source, O: Sink, J: Sink, P: Link>(
+        &mut self,
+        side: &mut S,
+        speaker: &mut O,
+        journal: &mut J,
+        microphone: &mut I,
+        reply: &mut P,
+    ) -> Beat
+        requires made { self.old.made < 16000000 }
+        requires position { S.position side.old ≤ 2 ^ 32 + self.old.made }
+        ensures beats { Beats S.did (standing self.old side.old (S.position side.old) (O.given speaker.old) (J.given journal.old) (I.left microphone.old) (P.log reply.old)) (standing self.new side.new (S.position side.new) (O.given speaker.new) (J.given journal.new) (I.left microphone.new) (P.log reply.new)) result }
+        ensures made { self.new.made ≡ self.old.made + 1 }
+        ensures most { self.new.ticks ≡ self.old.ticks }
+        ensures position { S.position side.new ≤ 2 ^ 32 + self.new.made }
+        ensures ended { P.ended reply.new ≡ P.ended reply.old }
+        ensures speaker_later { O.faults speaker.old ≤ O.faults speaker.new }
+        ensures speaker_fault { result ≡ Beat.SpeakerFault → Rose (O.faults speaker.old) (O.faults speaker.new) }
+        ensures journal_later { J.faults journal.old ≤ J.faults journal.new }
+        ensures journal_fault { result ≡ Beat.JournalFault → Rose (J.faults journal.old) (J.faults journal.new) }
+        ensures mic_later { I.faults microphone.old ≤ I.faults microphone.new }
+        ensures mic_fault { result ≡ Beat.MicFault → Rose (I.faults microphone.old) (I.faults microphone.new) }
+        ensures reply_later { P.faults reply.old ≤ P.faults reply.new }
+        ensures reply_fault { result ≡ Beat.ReplyFault → Rose (P.faults reply.old) (P.faults reply.new) }
+        ensures speaker_kin { O.kin speaker.old speaker.new }
+        ensures journal_kin { J.kin journal.old journal.new }
+    {
+        let found = look(self.opened, side);
+        let item = item_of_found(&found);
+        self.opened = opens(&found);
+        self.made += 1;
+        self.tally.item(&item);
+        if let Err(Failed) = speak(&mut self.voice, item, speaker) {
+            return Beat::SpeakerFault;
+        }
+        if let Err(Failed) = write_found(&found, journal) {
+            return Beat::JournalFault;
+        }
+        match self.stream.send(microphone, reply) {
+            ReturnEnd::Sent => Beat::Played,
+            ReturnEnd::Silent => Beat::Played,
+            ReturnEnd::MicFault => Beat::MicFault,
+            ReturnEnd::ReplyFault => Beat::ReplyFault,
+        }
+    }
+}
+
+// Plays an item, and gives its 160 samples in one give.
+fn speak<O: Sink>(voice: &mut Voice, item: Item, speaker: &mut O) -> Result<(), Failed>
+    ensures spoken { (played : List ℤ) × Gives (O.given speaker.old) (O.given speaker.new) result (sample_octets played)
+        × ((seed : List ℕ) (items : List Item) (samples : List ℤ) → Voices seed items samples voice.old → Voices seed (items ++ item ∷ []) (samples ++ played) voice.new)
+        × (length played ≡ 160) }
+    ensures cause { HasCause (O.faults speaker.old) (O.faults speaker.new) result }
+    ensures kin { O.kin speaker.old speaker.new }
+{
+    let mut samples = [0; 160];
+    voice.play(item, &mut samples);
+    let mut octets = [0; 320];
+    LittleEndian::write_i16_into(&samples, &mut octets);
+    speaker.give(&octets)
+}
