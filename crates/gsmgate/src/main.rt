@@ -7,7 +7,6 @@ mod filers;
 mod line;
 mod notes;
 mod offline;
-mod outside;
 mod places;
 mod playback;
 mod refusals;
@@ -18,13 +17,13 @@ mod status;
 mod stop;
 
 use crate::offline::run_offline;
-use crate::outside::{OsSink, OsSource};
 use crate::places::{Places, addresses};
 use crate::status::Status;
+use gate_base::OutOfMemory;
+use gate_os::{OsSink, OsSource};
 use std::alloc::AllocError;
-use std::io::BufReader;
+use std::env;
 use std::process::ExitCode;
-use std::{env, fs};
 
 fn code_of(status: Status) -> ExitCode {
     ExitCode::from(status as u8)
@@ -42,25 +41,25 @@ fn words_of(rt: &HostRuntime) -> Result<Vec<String>, AllocError> {
 }
 
 // Does a command over the files that it names.
-fn run_files(rt: &HostRuntime, words: &Vec<String>, places: &Places) -> Result<Status, AllocError> {
+fn run_files(
+    rt: &HostRuntime,
+    words: &Vec<String>,
+    places: &Places,
+) -> Result<Status, OutOfMemory> {
     let mut inputs = Vec::new(rt.alloc());
     for path in &places.inputs {
-        let file = match fs::open(rt, path.as_str()) {
-            Ok(file) => BufReader::new(rt.alloc(), file).ok(),
-            Err(_) => None,
-        };
-        inputs.push(OsSource::new(file))?;
+        inputs.push(OsSource::open(rt, rt.alloc(), path.as_str())?)?;
     }
-    let mut output = OsSink::new(fs::create(rt, places.output.as_str()).ok());
-    let mut notes = OsSink::new(Some(rt.stdout()));
+    let mut output = OsSink::create(rt, rt.alloc(), places.output.as_str())?;
+    let mut notes = OsSink::standard(rt);
     Ok(run_offline(rt.alloc(), words, &mut inputs, &mut output, &mut notes))
 }
 
 // Words that are no line: nothing is opened, and the notes say so.
 fn refuse(rt: &HostRuntime, words: &Vec<String>) -> Status {
-    let mut inputs: Vec<OsSource<&[u8]>> = Vec::new(rt.alloc());
-    let mut output = OsSink::new(Some(rt.stdout()));
-    let mut notes = OsSink::new(Some(rt.stdout()));
+    let mut inputs: Vec<OsSource<HostRuntime>> = Vec::new(rt.alloc());
+    let mut output = OsSink::standard(rt);
+    let mut notes = OsSink::standard(rt);
     run_offline(rt.alloc(), words, &mut inputs, &mut output, &mut notes)
 }
 
@@ -71,7 +70,7 @@ fn main(rt: HostRuntime) -> ExitCode {
     match addresses(rt.alloc(), &words) {
         Ok(places) => match run_files(&rt, &words, &places) {
             Ok(status) => code_of(status),
-            Err(AllocError) => code_of(Status::OutOfMemory),
+            Err(OutOfMemory) => code_of(Status::OutOfMemory),
         },
         Err(Status::Usage) => code_of(refuse(&rt, &words)),
         Err(status) => code_of(status),

@@ -1,0 +1,14 @@
+//! The operating system's files, sockets and clock, as sources, sinks, links and ticks.
+#![tactic(auto)]
+
+mod os_clock;
+mod os_sink;
+mod os_source;
+mod udp_link;
+mod udp_socket;
+
+pub use gate_base::OutOfMemory;
+pub use os_clock::OsClock;
+pub use os_sink::OsSink;
+pub use os_source::OsSource;
+pub use udp_link::UdpLink;
