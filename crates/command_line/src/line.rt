@@ -79,7 +79,11 @@ fn voice_of(spoken: bool, seed: Option<[u8; 32]>) -> Option<[u8; 32]>
 }
 
 // What the words of `simulate` behind the seed say. The flag stands before the seed or behind it.
-fn simulate_behind<'a>(before: bool, seed: Option<[u8; 32]>, words: &'a [String]) -> Option<Line<'a>>
+fn simulate_behind<'a>(
+    before: bool,
+    seed: Option<[u8; 32]>,
+    words: &'a [String],
+) -> Option<Line<'a>>
     ensures { result ≡ simulate_behind before seed (map string_bytes words.entry.now) }
 {
     if before {

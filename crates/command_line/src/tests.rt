@@ -14,10 +14,12 @@ fn words(alloc: Global, line: &str) -> Result<Vec<String>, AllocError> {
 fn says(alloc: Global, line: &str, command: Command) -> Result<bool, AllocError> {
     let words = words(alloc, line)?;
     match line_of(&words) {
-        Some(said) => Ok(said.command == command
-            && said.inputs.len() == 1
-            && said.inputs[0].as_str() == "in"
-            && said.output == "out"),
+        Some(said) => Ok(
+            said.command == command
+                && said.inputs.len() == 1
+                && said.inputs[0].as_str() == "in"
+                && said.output == "out",
+        ),
         None => Ok(false),
     }
 }

@@ -24,7 +24,7 @@ octets_again (a ∷ []) (x ∷ dst) len small read = absurd (omega (arith, len))
 octets_again (a ∷ b ∷ src) (x ∷ dst) len small read =
     let first : x ≡ cast_signed w16 (a + 256 * (b + 256 * 0)) = read (pos 0) 0 (omega arith) in
     let rest : sample_octets dst ≡ src = octets_again src dst (omega (arith, len)) (λ i. small (suc (suc i)))
-        (λ d k h.
-          let next : 2 * suc k ≡ suc (suc (2 * k)) = omega arith in
-          read d (suc k) (omega (arith, h)) ∙ ap (λ (n : ℕ). cast_signed w16 (little_number 2 (drop n (a ∷ b ∷ src)))) next) in
+    (λ d k h.
+    let next : 2 * suc k ≡ suc (suc (2 * k)) = omega arith in
+    read d (suc k) (omega (arith, h)) ∙ ap (λ (n : ℕ). cast_signed w16 (little_number 2 (drop n (a ∷ b ∷ src)))) next) in
     ap (λ (z : ℤ). little_bytes 2 (cast_unsigned w16 z) ++ sample_octets dst) first ∙ ap (λ (l : List ℕ). l ++ sample_octets dst) (two a b (small 0) (small 1)) ∙ ap (λ (l : List ℕ). a ∷ b ∷ l) rest

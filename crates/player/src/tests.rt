@@ -40,8 +40,14 @@ fn a_fault_loses_the_piece_or_counts_the_packet(rt: HostRuntime) -> Result<(), F
     let mut reply = link(rt.alloc(), &[1])?;
     let mut stream = ReturnStream::new(9, 5, 1000);
     assert_eq!(rt; stream.send(&mut microphone, &mut reply), ReturnEnd::Sent);
-    assert_eq!(rt; stream.send(&mut microphone, &mut reply), ReturnEnd::MicFault);
-    assert_eq!(rt; stream.send(&mut microphone, &mut reply), ReturnEnd::ReplyFault);
+    assert_eq!(rt;
+        stream.send(&mut microphone, &mut reply),
+        ReturnEnd::MicFault
+    );
+    assert_eq!(rt;
+        stream.send(&mut microphone, &mut reply),
+        ReturnEnd::ReplyFault
+    );
     assert_eq!(rt; stream.send(&mut microphone, &mut reply), ReturnEnd::Sent);
     assert_eq!(rt; reply.sent_count(), 2);
     assert!(rt; is_packet(reply.sent(0), b"\x80\x03\0\x05\0\0\x03\xE8\0\0\0\x09"));

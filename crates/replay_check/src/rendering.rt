@@ -59,7 +59,12 @@ fn item_of(event: &PlayEvent) -> Option<Item>
 }
 
 // Plays and counts what an event plays.
-fn play_event<O: Sink>(event: &PlayEvent, voice: &mut Voice, tally: &mut PlayTally, pcm: &mut O) -> Result<(), Failed>
+fn play_event<O: Sink>(
+    event: &PlayEvent,
+    voice: &mut Voice,
+    tally: &mut PlayTally,
+    pcm: &mut O,
+) -> Result<(), Failed>
     ensures played { (speech : List ℤ)
         × ((seed : List ℕ) (items : List Item) (samples : List ℤ) → Voices seed items samples voice.old → Voices seed (items ++ event_items event.now) (samples ++ speech) voice.new)
         × Gives (O.given pcm.old) (O.given pcm.new) result (sample_octets speech) }
@@ -77,7 +82,13 @@ fn play_event<O: Sink>(event: &PlayEvent, voice: &mut Voice, tally: &mut PlayTal
 }
 
 // Plays the events behind the head.
-fn play_events<I: Source, O: Sink>(head: &Head, seed: [u8; 32], reader: &mut PlayReader, journal: &mut I, pcm: &mut O) -> RenderEnd
+fn play_events<I: Source, O: Sink>(
+    head: &Head,
+    seed: [u8; 32],
+    reader: &mut PlayReader,
+    journal: &mut I,
+    pcm: &mut O,
+) -> RenderEnd
     requires heading { IsHeading head.now }
     requires read { reader.old ≡ headed_play (Ok head.now) }
     ensures played { (j : PlayerRecord) × (samples : List ℤ) × (j.head ≡ head.now) × Played seed (flat_map play_event_text j.events) result (I.left journal.old) (O.given pcm.old) (O.given pcm.new) j samples }

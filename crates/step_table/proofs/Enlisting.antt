@@ -57,4 +57,3 @@ enlist_allowed k slots id me word new who may t holds wide at small =
     λ i. (record { words = sym sp.0 i; homes = sym sp.1 i; views = sym sp.2 i }, sym may.1 i, (place ∙ sym may.5) i, sym may.6 i) in
     let here : get_elem? s.views id ≡ some (pool_view k p) = ap (λ (l : List View). get_elem? l id) (sym sp.2) ∙ at ∙ ap (λ (m : SeatState). some m.0) may.1 in
     subst (λ (q : T × SeatState × ℕ × ℕ). Goes k q.0 id q.1 q.2 q.3 (told (enlist who) q.1)) same (goes k s holds.2 holds.3 id p who here may.2 may.3 may.4)
-

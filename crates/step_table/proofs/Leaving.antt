@@ -43,4 +43,3 @@ leave_allowed k slots id me word new may t holds wide at small =
     λ i. (record { words = sym sp.0 i; homes = sym sp.1 i; views = sym sp.2 i }, sym may.2 i, (place ∙ sym may.5) i, sym may.6 i) in
     let here : get_elem? s.views id ≡ some (caller_view k c) = ap (λ (l : List View). get_elem? l id) (sym sp.2) ∙ at ∙ ap (λ (m : SeatState). some m.0) may.2 in
     subst (λ (q : T × SeatState × ℕ × ℕ). Goes k q.0 id q.1 q.2 q.3 (told leave q.1)) same (goes k s holds.2 holds.3 id c z here)
-

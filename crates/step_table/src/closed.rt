@@ -68,10 +68,7 @@ impl Closed {
 
 impl Drop for Closed {
     fn drop(self) {
-        let Closed {
-            mut table,
-            seat: _,
-        } = self;
+        let Closed { mut table, seat: _ } = self;
         let mut i = 0;
         while i < table.slot_count() {
             drop(table.take(i));

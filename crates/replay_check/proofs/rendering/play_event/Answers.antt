@@ -20,7 +20,7 @@ returns-in-None-clause-played g c =
     let none : event_items c.args.event.now ≡ [] = c.in-None.ensures in (
       [],
       λ seed items samples before.
-        subst (λ (l : List Item). Voices seed l (samples ++ []) c.args.voice.now) (sym (append-nil items) ∙ ap (λ (l : List Item). items ++ l) (sym none))
-        (subst (λ (l : List ℤ). Voices seed items l c.args.voice.now) (sym (append-nil samples)) before),
+          subst (λ (l : List Item). Voices seed l (samples ++ []) c.args.voice.now) (sym (append-nil items) ∙ ap (λ (l : List Item). items ++ l) (sym none))
+          (subst (λ (l : List ℤ). Voices seed items l c.args.voice.now) (sym (append-nil samples)) before),
       Appends-nil (g.O.Sink.given c.args.pcm.now),
     )

@@ -92,8 +92,7 @@ pub returns-in-Err-Fault-clause-played : goal.returns-in-Err-Fault-clause-played
 returns-in-Err-Fault-clause-played g c =
     let p = c.events.invariant.playing in
     let s = p.2 in
-    let all = rw c.in-Err-Fault.field-0-is at c.in-Err-Fault.ensures in
-    (
+    let all = rw c.in-Err-Fault.field-0-is at c.in-Err-Fault.ensures in (
       journal c.args.head.now p.0,
       p.1,
       refl,

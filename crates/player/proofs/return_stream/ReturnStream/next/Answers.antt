@@ -7,8 +7,7 @@ use Rattle.player.proofs.return_stream.ReturnStream.next.Goals as goal
 
 pub returns-clause-packet : goal.returns-clause-packet
 returns-clause-packet c =
-    let goes : (before : List ℤ) (frames : List Fields) → Encodes before frames c.self.inside.encoder → Encodes (before ++ c.args.samples.now) (frames ++ c.encode.result ∷ []) c.encode.new.self = c.encode.ensures.goes_on in
-    (
+    let goes : (before : List ℤ) (frames : List Fields) → Encodes before frames c.self.inside.encoder → Encodes (before ++ c.args.samples.now) (frames ++ c.encode.result ∷ []) c.encode.new.self = c.encode.ensures.goes_on in (
       c.pack-frame.result,
       c.encode.result,
       c.pack-frame.ensures.frame,
