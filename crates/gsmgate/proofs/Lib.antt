@@ -10,3 +10,4 @@ pub mod Decoding
 pub mod DecodeEnds
 pub mod Encoding
 pub mod EncodeEnds
+pub mod Lines

@@ -49,11 +49,11 @@ pub fn run_offline<I: Source, O: Sink, E: Sink>(
     ensures later { (O.faults output.old ≤ O.faults output.new) × (E.faults notes.old ≤ E.faults notes.new) }
     ensures kin { O.kin output.old output.new × E.kin notes.old notes.new }
 {
+    if inputs.len() != 1 {
+        return refuse_words(notes);
+    }
     match line_of(words) {
-        Some(line) => match inputs.as_mut_slice() {
-            [input] => run_command(alloc, line.command, input, output, notes),
-            _ => refuse_words(notes),
-        },
+        Some(line) => run_command(alloc, line.command, &mut inputs[0], output, notes),
         None => refuse_words(notes),
     }
 }
