@@ -48,15 +48,15 @@ fn zeros(alloc: Global, count: usize) -> Result<Vec<u8>, Fail> {
     Ok(octets)
 }
 
-// Whether `encode` codes so many zeros to these frames, in pieces of seven octets.
-fn encodes_to(alloc: Global, count: usize, frames: usize, notes: &str) -> Result<bool, Fail> {
+// Whether `encode` codes so many zeros to so many octets of frames, in pieces of seven octets.
+fn encodes_to(alloc: Global, count: usize, given: usize, notes: &str) -> Result<bool, Fail> {
     let octets = zeros(alloc, count)?;
     let zero = octets_of(alloc, "zeros")?;
     let ended = run_over(alloc, "encode in out", &octets, 7, &[], &[])?;
     Ok(
         ended.status == Status::Done
-            && ended.output.octets().len() == 33 * frames
-            && (frames == 0 || ended.output.octets().ends_with(zero.as_slice()))
+            && ended.output.octets().len() == given
+            && (given == 0 || ended.output.octets().ends_with(zero.as_slice()))
             && *ended.notes.octets() == *notes.as_bytes(),
     )
 }
@@ -65,8 +65,8 @@ fn encodes_to(alloc: Global, count: usize, frames: usize, notes: &str) -> Result
 fn speech_is_encoded_piece_by_piece(rt: HostRuntime) -> Result<(), Fail> {
     let alloc = rt.alloc();
     let none = encodes_to(alloc, 0, 0, "frames 0\n")?;
-    let one = encodes_to(alloc, 320, 1, "frames 1\n")?;
-    let filled = encodes_to(alloc, 500, 2, "frames 2\n")?;
+    let one = encodes_to(alloc, 320, 33, "frames 1\n")?;
+    let filled = encodes_to(alloc, 500, 66, "frames 2\n")?;
     assert!(rt; none && one && filled);
     let octets = zeros(alloc, 500)?;
     let unread = run_over(alloc, "encode in out", &octets, 7, &[50], &[])?;
