@@ -1,12 +1,15 @@
 # What the benches share: the program, a room that goes away at the end, and the time of a command.
-# The program is that of `rt run`, in crates/gsmgate/out. What is missing is skipped, with a line that says so.
+# The program is that of `rt run`, in crates/gsmgate/out, or in that of the crate which a bench names. What is missing is
+# skipped, with a line that says so.
 set -u
 top=$(cd "$(dirname "${BASH_SOURCE[0]}")/.." && pwd)
-gateway=$top/crates/gsmgate/out/gsmgate
+crate=${crate:-gsmgate}
+program=$top/crates/$crate/out/$crate
+gateway=$program
 work=$(mktemp -d)
 trap 'rm -rf "$work"' EXIT
 
-[ -x "$gateway" ] || { echo "skipped: $gateway is not there; run 'rt run' in crates/gsmgate first"; exit 0; }
+[ -x "$program" ] || { echo "skipped: $program is not there; run 'rt run' in crates/$crate first"; exit 0; }
 
 has() { # TOOL...: whether all of them are there
   for tool in "$@"; do

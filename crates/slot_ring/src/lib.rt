@@ -30,4 +30,8 @@ pub use ring::SlotRing;
 pub use step_table::Steps;
 
 #[cfg(test)]
+mod replay;
+#[cfg(test)]
 mod tests;
+#[cfg(test)]
+mod threads;
