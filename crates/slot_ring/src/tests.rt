@@ -1,4 +1,4 @@
-// The ring by hand, and with real threads.
+// The ring by hand.
 ghost use Rattle.std.specs.Prelude.{◌≡◌, ◌<◌, ◌≤◌, ◌+◌, ◌^◌, [], IfOk};
 ghost use Rattle.slot_ring.specs.Seen.{position_in};
 
