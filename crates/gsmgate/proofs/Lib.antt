@@ -11,3 +11,7 @@ pub mod DecodeEnds
 pub mod Encoding
 pub mod EncodeEnds
 pub mod Lines
+pub mod ReadJournals
+pub mod Refuted
+pub mod VerifyEnds
+pub mod OrderLines

@@ -1,6 +1,6 @@
 -- What passed between a command and the objects that it was lent.
-use Rattle.std.specs.Prelude.{ℕ, ◌⊎◌, List, Option}
-use Rattle.std.specs.Io.KnownBytes.{Appends}
+use Rattle.std.specs.Prelude.{ℕ, ◌⊎◌, ◌≤◌, ◌<◌, List, length, slice_index, Option}
+use Rattle.std.specs.Io.KnownBytes.{Appends, Keeps}
 use Rattle.gate_base.specs.Faults.{Rose}
 use Rattle.gate_io.specs.Flow.{AppendsPart}
 
@@ -36,3 +36,56 @@ GainedUnlessFault old new before now text = Appends old new text ⊎ (AppendsPar
 -- the notes have gained this text, or a front of it where a give to them failed
 abbrev pub NotedUnlessFault : Exchange → List ℕ → Type 0
 NotedUnlessFault x text = GainedUnlessFault x.notes x.notes_now x.noted x.noted_now text
+
+-- ---- the output and the notes, apart from the inputs
+
+-- The octets of the output and the notes as the command began and ended, where they are told.
+-- And the count of the notes' faults, as it began and ended.
+pub record Giving : Type 0 where
+  pub output : Option (List ℕ)
+  pub output_now : Option (List ℕ)
+  pub notes : Option (List ℕ)
+  pub notes_now : Option (List ℕ)
+  pub noted : ℕ
+  pub noted_now : ℕ
+
+-- the same beside one input
+abbrev pub over : Giving → Option (List ℕ) → Exchange
+over x input = record {
+  input = input;
+  output = x.output;
+  output_now = x.output_now;
+  notes = x.notes;
+  notes_now = x.notes_now;
+  noted = x.noted;
+  noted_now = x.noted_now;
+}
+
+-- the output and the notes are as they were
+abbrev pub GaveNothing : Giving → Type 0
+GaveNothing x = Keeps x.output x.output_now × Keeps x.notes x.notes_now
+
+-- the output and the notes have gained these texts
+abbrev pub GaveBoth : Giving → List ℕ → List ℕ → Type 0
+GaveBoth x output notes = Appends x.output x.output_now output × Appends x.notes x.notes_now notes
+
+-- A give failed: one to the output, which has a front of its text, and the notes are as they were; or one to the notes,
+-- which have a front of theirs, and the output has all of its text.
+abbrev pub GaveFront : Giving → List ℕ → List ℕ → Type 0
+GaveFront x output notes =
+    (AppendsPart x.output x.output_now output × Keeps x.notes x.notes_now)
+    ⊎ (Appends x.output x.output_now output × AppendsPart x.notes x.notes_now notes)
+
+-- the output is as it was, and the notes have gained this text, or a front of it where a give to them failed
+abbrev pub NotedAlone : Giving → List ℕ → Type 0
+NotedAlone x text = Keeps x.output x.output_now × GainedUnlessFault x.notes x.notes_now x.noted x.noted_now text
+
+-- ---- counts of several inputs, in their order
+
+-- no count fell
+abbrev pub NoneFell : List ℕ → List ℕ → Type 0
+NoneFell before now = (k : ℕ) → slice_index before k ≤ slice_index now k
+
+-- at some place the count rose
+abbrev pub SomeRose : List ℕ → List ℕ → Type 0
+SomeRose before now = (k : ℕ) × (k < length before) × Rose (slice_index before k) (slice_index now k)

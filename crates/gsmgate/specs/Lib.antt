@@ -13,4 +13,8 @@ pub mod DecodeRuns
 pub mod Encode
 pub mod EncodeRuns
 pub mod Render
+pub mod Pages
+pub mod Verify
+pub mod VerifyRuns
+pub mod Make
 pub mod Commands

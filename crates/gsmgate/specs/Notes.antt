@@ -1,5 +1,5 @@
 -- The lines of the notes.
-use Rattle.std.specs.Prelude.{ℕ, List, [], ◌∷◌, ◌++◌, codes, decimal}
+use Rattle.std.specs.Prelude.{ℕ, ◌==◌, List, [], ◌∷◌, ◌++◌, codes, decimal, if◌then◌else◌}
 use Rattle.std.specs.List.{flat_map}
 use Rattle.play_machine.specs.declared.reply.FileReply.{FileReply}
 use Rattle.play_machine.specs.declared.reply.FileReply.TheVariants.{Accepted, Duplicate, Late, Beyond}
@@ -130,3 +130,19 @@ fault_line input fault = counted (codes "input ") input ++ (fault_words fault ++
 -- how many frames there were
 abbrev pub frames_line : ℕ → List ℕ
 frames_line n = counted (codes "frames ") n ++ newline
+
+-- how many calls a legal history has
+abbrev pub legal_line : ℕ → List ℕ
+legal_line n = counted (codes "legal ") n ++ newline
+
+-- the caller and the place where no legal history goes on
+abbrev pub illegal_line : ℕ → ℕ → List ℕ
+illegal_line caller place = counted (codes "illegal ") caller ++ (counted (codes " ") place ++ newline)
+
+-- who makes a call, where there are so many filers: a filer by its number, or the player
+abbrev pub caller_line : ℕ → ℕ → List ℕ
+caller_line filers who = (if who == filers then codes "p" else decimal who) ++ newline
+
+-- the callers of a history, each on its line
+abbrev pub order_lines : ℕ → List ℕ → List ℕ
+order_lines filers order = flat_map (caller_line filers) order

@@ -119,7 +119,7 @@ pub fn decode<I: Source, O: Sink, E: Sink>(input: &mut I, output: &mut O, notes:
             Err(Failed) => Status::WriteFault,
         },
         Err(Stop::Refused(fault)) => {
-            note_fault(fault, notes);
+            note_fault(0, fault, notes);
             Status::Input
         }
         Err(Stop::ReadFault) => Status::ReadFault,

@@ -4,9 +4,13 @@
 mod decode;
 mod encode;
 mod filers;
+mod journals;
 mod line;
+mod make;
 mod notes;
 mod offline;
+mod order_lines;
+mod page;
 mod places;
 mod playback;
 mod refusals;
@@ -15,6 +19,7 @@ mod run;
 mod simulate;
 mod status;
 mod stop;
+mod verify;
 
 use crate::offline::run_offline;
 use crate::places::{Places, addresses};

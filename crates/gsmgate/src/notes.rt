@@ -4,7 +4,7 @@ ghost use Rattle.std.specs.Io.KnownBytes.{Appends};
 ghost use Rattle.gate_base.specs.Faults.{HasCause, Rose};
 ghost use Rattle.gate_io.specs.Flow.{AppendsPart, Gives};
 ghost use Rattle.gsmgate.specs.Exchange.{GainedUnlessFault};
-ghost use Rattle.gsmgate.specs.Notes.{counted, fault_line, fault_words, frame_words, frames_line, newline, other_words, play_line, reply_line, tally_line, usage_line};
+ghost use Rattle.gsmgate.specs.Notes.{counted, fault_line, fault_words, frame_words, frames_line, illegal_line, legal_line, newline, other_words, play_line, reply_line, tally_line, usage_line};
 
 use crate::line::Line;
 use gate_io::{Failed, Sink};
@@ -124,6 +124,18 @@ pub fn give_tally<E: Sink>(tally: &Tally, notes: &mut E) -> Result<(), Failed>
     line.give(notes)
 }
 
+/// Notes the summary of a run: what the player's beats came to, and all datagrams and frames.
+pub fn give_summary<E: Sink>(plays: &PlayTally, tally: &Tally, notes: &mut E) -> Result<(), Failed>
+    ensures given { Gives (E.given notes.old) (E.given notes.new) result (play_line plays.now ++ tally_line (codes "all") tally.now) }
+    ensures cause { HasCause (E.faults notes.old) (E.faults notes.new) result }
+    ensures kin { E.kin notes.old notes.new }
+{
+    match give_plays(plays, notes) {
+        Ok(()) => give_tally(tally, notes),
+        Err(Failed) => Err(Failed),
+    }
+}
+
 // Writes the words of a fault, with its place.
 fn put_fault(line: &mut Line, fault: &RecordFault)
     requires { length line.old ≤ 60 }
@@ -151,13 +163,13 @@ pub fn give_fault<E: Sink>(input: u32, fault: &RecordFault, notes: &mut E) -> Re
     line.give(notes)
 }
 
-/// Notes the first fault of the one input. A fault of the notes changes nothing: the input's came first.
-pub fn note_fault<E: Sink>(fault: RecordFault, notes: &mut E)
-    ensures noted { GainedUnlessFault (E.given notes.old) (E.given notes.new) (E.faults notes.old) (E.faults notes.new) (fault_line 0 fault) }
+/// The same, where a fault of the notes changes nothing: the input's came first.
+pub fn note_fault<E: Sink>(input: u32, fault: RecordFault, notes: &mut E)
+    ensures noted { GainedUnlessFault (E.given notes.old) (E.given notes.new) (E.faults notes.old) (E.faults notes.new) (fault_line input fault) }
     ensures later { E.faults notes.old ≤ E.faults notes.new }
     ensures kin { E.kin notes.old notes.new }
 {
-    match give_fault(0, &fault, notes) {
+    match give_fault(input, &fault, notes) {
         Ok(()) => {}
         Err(Failed) => {}
     }
@@ -171,5 +183,28 @@ pub fn give_frames<E: Sink>(count: u32, notes: &mut E) -> Result<(), Failed>
 {
     let mut line = Line::new();
     line.counted("frames ", count as u64);
+    line.give(notes)
+}
+
+/// Notes how many calls a legal history has.
+pub fn give_legal<E: Sink>(count: u64, notes: &mut E) -> Result<(), Failed>
+    ensures given { Gives (E.given notes.old) (E.given notes.new) result (legal_line count) }
+    ensures cause { HasCause (E.faults notes.old) (E.faults notes.new) result }
+    ensures kin { E.kin notes.old notes.new }
+{
+    let mut line = Line::new();
+    line.counted("legal ", count);
+    line.give(notes)
+}
+
+/// Notes the caller and the place where no legal history goes on. The player is named by the number of filers.
+pub fn give_illegal<E: Sink>(caller: u32, place: u64, notes: &mut E) -> Result<(), Failed>
+    ensures given { Gives (E.given notes.old) (E.given notes.new) result (illegal_line caller place) }
+    ensures cause { HasCause (E.faults notes.old) (E.faults notes.new) result }
+    ensures kin { E.kin notes.old notes.new }
+{
+    let mut line = Line::new();
+    line.counted("illegal ", caller as u64);
+    line.counted(" ", place);
     line.give(notes)
 }

@@ -40,7 +40,7 @@ pub fn render<I: Source, O: Sink, E: Sink>(
             Err(Failed) => Status::WriteFault,
         },
         RenderEnd::Refused(fault) => {
-            note_fault(fault, notes);
+            note_fault(0, fault, notes);
             Status::Input
         }
         RenderEnd::ReadFault => Status::ReadFault,

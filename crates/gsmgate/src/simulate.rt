@@ -11,7 +11,7 @@ ghost use Rattle.gsmgate.specs.Ran.{Finishes, IsOpened, IsStarted, Ran};
 ghost use Rattle.gsmgate.specs.Simulate.{Completes, Ends};
 
 use crate::filers::new_filers;
-use crate::notes::{give_plays, give_tally, note_fault};
+use crate::notes::{give_summary, note_fault};
 use crate::playback::Playback;
 use crate::run::Run;
 use crate::status::Status;
@@ -54,18 +54,6 @@ fn run_events<I: Source, O: Sink, E: Sink>(
     }
 }
 
-// Gives the summary of a run.
-fn summarise<E: Sink>(run: &Run, notes: &mut E) -> Result<(), Failed>
-    ensures given { Gives (E.given notes.old) (E.given notes.new) result (play_line run.now.played ++ tally_line (codes "all") run.now.filed) }
-    ensures cause { HasCause (E.faults notes.old) (E.faults notes.new) result }
-    ensures kin { E.kin notes.old notes.new }
-{
-    match give_plays(&run.played, notes) {
-        Ok(()) => give_tally(&run.filed, notes),
-        Err(Failed) => Err(Failed),
-    }
-}
-
 // Gives the output's end and the summary.
 fn finish<O: Sink, E: Sink>(run: &Run, playback: &Playback, output: &mut O, notes: &mut E) -> Status
     ensures finishes { Finishes result (O.given output.old) (O.given output.new) (E.given notes.old) (E.given notes.new) (end_text playback.now) (play_line run.now.played ++ tally_line (codes "all") run.now.filed) }
@@ -74,7 +62,7 @@ fn finish<O: Sink, E: Sink>(run: &Run, playback: &Playback, output: &mut O, note
     ensures kin { O.kin output.old output.new × E.kin notes.old notes.new }
 {
     match playback.end(output) {
-        Ok(()) => match summarise(run, notes) {
+        Ok(()) => match give_summary(&run.played, &run.filed, notes) {
             Ok(()) => Status::Done,
             Err(Failed) => Status::WriteFault,
         },
@@ -129,7 +117,7 @@ pub fn simulate<I: Source, O: Sink, E: Sink>(
     let head = match reader.head(input) {
         Ok(head) => head,
         Err(RecordEnd::Fault(fault)) => {
-            note_fault(fault, notes);
+            note_fault(0, fault, notes);
             return Status::Input;
         }
         Err(RecordEnd::ReadFailed) => return Status::ReadFault,
@@ -146,7 +134,7 @@ pub fn simulate<I: Source, O: Sink, E: Sink>(
     match run_events(&head, &mut reader, run, &mut playback, input, output, notes) {
         Ok(last) => finish(&last, &playback, output, notes),
         Err(Stop::Refused(fault)) => {
-            note_fault(fault, notes);
+            note_fault(0, fault, notes);
             Status::Input
         }
         Err(Stop::ReadFault) => Status::ReadFault,

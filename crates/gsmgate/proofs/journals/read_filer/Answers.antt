@@ -1,0 +1,20 @@
+use Rattle.std.proofs.Common.{◌≡◌, Some, None, inr, sym, ap, ◌∙◌}
+use Rattle.recorder.specs.declared.fault.RecordFault.{RecordFault}
+use Rattle.gsmgate.specs.Verify.{filer_misfit}
+use Rattle.gsmgate.proofs.ReadJournals.{fits-filer, tells-filer}
+use Rattle.gsmgate.proofs.journals.read_filer.Goals as goal
+
+pub returns-in-Some-clause-fault : goal.returns-in-Some-clause-fault
+returns-in-Some-clause-fault g c = λ f is.
+    let left = g.I.Source.left in
+    let j = c.in-Ok.journal in
+    let same : c.in-Some.fault ≡ f = cc in
+    let misfit : filer_misfit c.args.head.now c.args.k j ≡ Some f = sym c.in-Some.ensures ∙ ap (λ (x : RecordFault). Some x) same in
+    inr (j, tells-filer (left c.args.input.now) (left c.read.new.source) j c.in-Ok.ensures.fits c.in-Ok.ensures.text, misfit)
+
+pub returns-in-None-clause-told : goal.returns-in-None-clause-told
+returns-in-None-clause-told g c =
+    let left = g.I.Source.left in
+    let j = c.in-Ok.journal in
+    let fits = fits-filer c.args.head.now c.args.k j (sym c.in-None.ensures) in
+    (tells-filer (left c.args.input.now) (left c.read.new.source) j c.in-Ok.ensures.fits c.in-Ok.ensures.text, fits.0, fits.1)
