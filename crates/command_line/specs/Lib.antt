@@ -1,2 +1,5 @@
+pub mod Said
 pub mod Values
+pub mod Table
 pub mod Lines
+pub mod Ranges

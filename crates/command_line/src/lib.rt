@@ -1,11 +1,17 @@
 //! The words of a command line: which line of the program they are, and what it says.
 #![tactic(auto)]
 
+mod files;
+mod laws;
 mod line;
-mod options;
+mod read;
+mod serve;
+mod table;
 mod values;
 
-pub use line::{Command, Line, line_of};
+pub use laws::lines_are_within;
+pub use line::{Command, FilesLine, Line, ServeLine, ServeOptions};
+pub use read::{Refusal, read_line};
 
 #[cfg(test)]
 mod tests;
