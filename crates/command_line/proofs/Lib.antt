@@ -1,3 +1,11 @@
 pub mod Accepted
 pub mod Within
 mod Numerals
+pub mod Rows
+pub mod Words
+pub mod Runs
+pub mod Places
+pub mod Flags
+pub mod Ends
+pub mod Program
+pub mod DecodeLines

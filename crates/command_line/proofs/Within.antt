@@ -181,13 +181,3 @@ found_within (Some f) l e = either (bytes_eq f.0 (codes "serve")) (serve_line f.
 pub line_within : (words : List Text) (l : Said) → line_of words ≡ Some l → IsWithin l
 unfolding line_of
 line_within words l e = found_within (subcommand_of gate_app words) l (cond_some (is_taken words) (line_in (subcommand_of gate_app words)) l e).1
-
--- ---- words that the program's command takes
-
-pub line_taken : (words : List Text) (found : Option (Text × List Row)) → is_taken words ≡ true → found ≡ subcommand_of gate_app words → line_of words ≡ line_in found
-unfolding line_of
-line_taken words found taken is = ap (λ (b : Bool). cond b (line_in (subcommand_of gate_app words)) None) taken ∙ ap line_in (sym is)
-
-pub line_refused : (words : List Text) → is_taken words ≡ false → line_of words ≡ None
-unfolding line_of
-line_refused words refused = ap (λ (b : Bool). cond b (line_in (subcommand_of gate_app words)) None) refused

@@ -3,3 +3,4 @@ pub mod Values
 pub mod Table
 pub mod Lines
 pub mod Ranges
+pub mod Plain

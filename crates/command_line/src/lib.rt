@@ -9,7 +9,7 @@ mod serve;
 mod table;
 mod values;
 
-pub use laws::lines_are_within;
+pub use laws::{lines_are_within, plain_decode_lines, plain_encode_lines};
 pub use line::{Command, FilesLine, Line, ServeLine, ServeOptions};
 pub use read::{Refusal, read_line};
 

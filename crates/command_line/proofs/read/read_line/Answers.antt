@@ -4,7 +4,8 @@ use Rattle.std.proofs.lemmas.Result.{IfOk-weaker}
 use Rattle.command_line.specs.declared.line.Line.{Line}
 use Rattle.command_line.specs.declared.read.Refusal.{Refusal}
 use Rattle.command_line.specs.declared.read.Refusal.TheVariants.{Usage}
-use Rattle.command_line.proofs.Within.{line_refused, line_taken, line_within}
+use Rattle.command_line.proofs.Accepted.{line_refused, line_taken}
+use Rattle.command_line.proofs.Within.{line_within}
 use Rattle.command_line.proofs.read.read_line.Goals as goal
 
 pub returns-in-Ok-clause-line : goal.returns-in-Ok-clause-line
