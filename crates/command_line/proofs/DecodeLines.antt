@@ -1,16 +1,13 @@
 -- Plain lines of decode and of encode.
-use Rattle.std.proofs.Common.{◌≡◌, true, List, [], ◌∷◌, Some, None, refl, codes}
-use Rattle.std.specs.List.{list_all}
-use Rattle.clap.specs.Walk.{Rule, Text, idle, is_empty}
-use Rattle.clap.specs.Simple.{Shape}
+use Rattle.std.proofs.Common.{[], ◌∷◌, None, refl, codes}
+use Rattle.clap.specs.Walk.{idle}
 use Rattle.command_line.specs.Table.{decode_shape, encode_shape}
-use Rattle.command_line.specs.Plain.{PlainDecode, PlainEncode, is_word}
+use Rattle.command_line.specs.Plain.{PlainDecode, PlainEncode}
 use Rattle.command_line.proofs.Rows.{row}
 use Rattle.command_line.proofs.Words.{state}
-use Rattle.command_line.proofs.Runs.{Walks}
-use Rattle.command_line.proofs.Places.{IsPlace, place_at, place_walk}
+use Rattle.command_line.proofs.Places.{place_walk}
 use Rattle.command_line.proofs.Ends.{leaf_read, start_walk}
-use Rattle.command_line.proofs.Program.{IsSub, leaf, line_says, decode_sub, encode_sub}
+use Rattle.command_line.proofs.Program.{leaf, line_says, decode_sub, encode_sub}
 
 pub plain_decode : PlainDecode
 plain_decode input output a b =

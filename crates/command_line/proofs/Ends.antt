@@ -1,18 +1,12 @@
 -- A command whose words were walked.
-use Rattle.std.proofs.Common.{◌≡◌, ℕ, ◌+◌, ◌==◌, ◌&&◌, ◌||◌, not, min, cond, Bool, true, false, List, [], ◌∷◌, ◌++◌, Option, Some, None, refl, sym, ap, ◌∙◌, append-nil, subst, codes, arith}
-use Rattle.std.specs.Prelude.{fold, find, is_some}
-use Rattle.std.specs.List.{list_all, list_any}
-use Rattle.std.specs.Str.{bytes_eq}
-use Rattle.clap.specs.Walk.{Held, Row, Rule, Text, Waiting, Walk, answers_to, default_rows, has_row, idle, is_empty, nothing_held, positional, reading_by, rows_after, settled, stop_after, walk, walk_from, walked, with_default}
-use Rattle.clap.specs.Simple.{Shape, App, argument_words, built, built_leaf, entered, inherited, label_of, names_of, subcommand_of}
+use Rattle.std.proofs.Common.{◌≡◌, ℕ, ◌&&◌, ◌||◌, cond, Bool, true, false, List, [], ◌∷◌, ◌++◌, None, refl, sym, ap, ◌∙◌, append-nil}
+use Rattle.std.specs.Prelude.{fold}
+use Rattle.std.specs.List.{list_all}
+use Rattle.clap.specs.Walk.{Held, Row, Rule, Text, Waiting, Walk, default_rows, has_row, idle, is_empty, nothing_held, reading_by, rows_after, settled, walk, walked, with_default}
+use Rattle.clap.specs.Simple.{Shape}
 use Rattle.clap.specs.Kinds.{Kinds, or_else}
-use Rattle.clap.specs.Faults.{built_fault, check_fault, default_fault, defaults_fault, entered_fault, fault_of, given_default_fault, level_fault, settle_fault, walk_fault}
-use Rattle.clap.specs.Takes.{is_given}
-use Rattle.clap.proofs.OnLiterals.{clap_on_literals}
+use Rattle.clap.specs.Faults.{check_fault, default_fault, defaults_fault, given_default_fault, level_fault, settle_fault, walk_fault}
 use Rattle.clap.proofs.SimpleLemmas.{is_nil}
-use Rattle.clap.proofs.WalkLemmas.{walk_stopped}
-use Rattle.clap.proofs.FaultLemmas.{stopped_fault}
-use Rattle.command_line.specs.Table.{gate_app, gate_top, decode_shape, serve_shape, simulate_shape}
 use Rattle.command_line.proofs.Words.{held, state}
 use Rattle.command_line.proofs.Runs.{Walks}
 

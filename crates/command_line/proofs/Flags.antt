@@ -1,21 +1,17 @@
 -- Options without a value.
-use Rattle.std.proofs.Common.{◌≡◌, ℕ, ◌+◌, ◌==◌, ◌&&◌, ◌||◌, not, min, cond, Bool, true, false, List, [], ◌∷◌, ◌++◌, Option, Some, None, refl, sym, ap, ◌∙◌, nat_lt, append-nil, append_assoc, subst, codes}
-use Rattle.std.specs.Prelude.{nat_eq, option_and_then, fold}
+use Rattle.std.proofs.Common.{◌≡◌, ℕ, ◌&&◌, not, cond, Bool, false, List, [], ◌∷◌, ◌++◌, Option, Some, None, ap, ◌∙◌, append-nil, codes}
 use Rattle.clap.specs.declared.builder.value_parser.Reading.TheVariants as reading
 use Rattle.clap.specs.declared.parser.matches.ValueSource.TheVariants.{CommandLine}
 use Rattle.clap.specs.declared.error.kind.ErrorKind.TheVariants as kind
-use Rattle.std.specs.Option.{option_map_or}
-use Rattle.std.specs.Cmp.Lexicographic.{pointwise}
 use Rattle.std.specs.Str.{bytes_eq}
-use Rattle.clap.specs.Lexer.{long_of, long_of_rest, short_of, short_of_rest, strip_byte, usize_max}
-use Rattle.clap.specs.Walk.{Held, Outcome, Row, Rule, Step, Text, Waiting, Walk, after_flag, after_step, arg_by_id, arg_by_index, arg_by_long, at_row, has_row, idle, is_pending, long_met, long_or_other, more_values, next, option, option_word, plain_word, positional, positional_held, pushed, reacted, settled, settled_rows, short_or_plain, subcommand_met, subcommand_or_other, takes_several, to_positional, trailing, used_by_id, value, walked, walk_from, with_values, without, word_met}
-use Rattle.clap.specs.Simple.{Shape, filled, with_index}
+use Rattle.clap.specs.Lexer.{long_of}
+use Rattle.clap.specs.Walk.{Held, Row, Rule, Step, Text, after_flag, after_step, arg_by_long, has_row, idle, long_met, long_or_other, more_values, next, reacted, settled, settled_rows, trailing, walked, with_values, word_met}
+use Rattle.clap.specs.Simple.{Shape, filled}
 use Rattle.clap.specs.Kinds.{Kinds, or_else}
-use Rattle.clap.specs.Faults.{bundle_fault, flag_word_fault, long_fault, other_fault, positional_fault, settle_fault, step_fault, stray_fault, turn_fault, use_fault, walk_fault, word_fault}
-use Rattle.command_line.specs.Table.{flag_rule, option_rule, place_rule, places_rule}
-use Rattle.command_line.specs.Plain.{AreWords, is_word, option_words}
-use Rattle.command_line.proofs.Rows.{row, option_rows}
-use Rattle.command_line.proofs.Words.{IsOption, held, state, value_rule, plain_met, plain_fault, or_else-nil, at_row-new, at_row-last, option_walked, option_turn, value_walked, value_turn, used_rows, used_fault}
+use Rattle.clap.specs.Faults.{flag_word_fault, long_fault, settle_fault, step_fault, turn_fault, use_fault, word_fault}
+use Rattle.command_line.specs.Table.{flag_rule}
+use Rattle.command_line.proofs.Rows.{row}
+use Rattle.command_line.proofs.Words.{held, state, or_else-nil, at_row-new}
 
 abbrev pub alone_rule : Text → Rule
 alone_rule name = filled (flag_rule name)

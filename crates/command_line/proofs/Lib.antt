@@ -9,3 +9,6 @@ pub mod Flags
 pub mod Ends
 pub mod Program
 pub mod DecodeLines
+pub mod VerifyLines
+pub mod MakeLines
+pub mod RenderLines

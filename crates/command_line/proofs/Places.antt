@@ -1,21 +1,20 @@
 -- Positional words.
-use Rattle.std.proofs.Common.{◌≡◌, ℕ, ◌+◌, ◌==◌, ◌&&◌, ◌||◌, not, min, cond, Bool, true, false, List, [], ◌∷◌, ◌++◌, Option, Some, None, refl, sym, ap, ◌∙◌, nat_lt, append-nil, append_assoc, subst, codes}
-use Rattle.std.specs.Prelude.{nat_eq, option_and_then, fold}
+use Rattle.std.proofs.Common.{◌≡◌, ℕ, ◌+◌, ◌&&◌, not, min, cond, Bool, true, false, List, [], ◌∷◌, ◌++◌, Option, Some, None, refl, sym, ap, ◌∙◌, append-nil, append_assoc}
+use Rattle.std.specs.Prelude.{fold}
 use Rattle.clap.specs.declared.builder.value_parser.Reading.TheVariants as reading
 use Rattle.clap.specs.declared.parser.matches.ValueSource.TheVariants.{CommandLine}
 use Rattle.clap.specs.declared.error.kind.ErrorKind.TheVariants as kind
 use Rattle.std.specs.Option.{option_map_or}
-use Rattle.std.specs.Cmp.Lexicographic.{pointwise}
 use Rattle.std.specs.Str.{bytes_eq}
-use Rattle.clap.specs.Lexer.{long_of, long_of_rest, short_of, short_of_rest, strip_byte, usize_max}
-use Rattle.clap.specs.Walk.{Held, Outcome, Row, Rule, Step, Text, Waiting, Walk, after_flag, after_step, arg_by_id, arg_by_index, arg_by_long, at_row, has_row, idle, is_pending, long_met, long_or_other, more_values, next, option, option_word, plain_word, positional, positional_held, pushed, reacted, settled, settled_rows, short_or_plain, subcommand_met, subcommand_or_other, takes_several, to_positional, trailing, used_by_id, value, walked, walk_from, with_values, without, word_met}
+use Rattle.clap.specs.Lexer.{usize_max}
+use Rattle.clap.specs.Walk.{Held, Row, Rule, Step, Text, Waiting, Walk, after_step, arg_by_id, arg_by_index, has_row, idle, is_pending, more_values, option, positional, pushed, settled, settled_rows, to_positional, used_by_id, value, walked, with_values, word_met}
 use Rattle.clap.specs.Simple.{Shape, filled, with_index}
 use Rattle.clap.specs.Kinds.{Kinds, or_else}
-use Rattle.clap.specs.Faults.{bundle_fault, flag_word_fault, long_fault, other_fault, positional_fault, settle_fault, step_fault, stray_fault, turn_fault, use_fault, walk_fault, word_fault}
-use Rattle.command_line.specs.Table.{flag_rule, option_rule, place_rule, places_rule}
-use Rattle.command_line.specs.Plain.{AreWords, is_word, option_words}
-use Rattle.command_line.proofs.Rows.{row, option_rows}
-use Rattle.command_line.proofs.Words.{IsOption, held, state, value_rule, plain_met, plain_fault, or_else-nil, at_row-new, at_row-last, option_walked, option_turn, value_walked, value_turn, used_rows, used_fault}
+use Rattle.clap.specs.Faults.{positional_fault, settle_fault, step_fault, stray_fault, turn_fault, use_fault, walk_fault, word_fault}
+use Rattle.command_line.specs.Table.{place_rule, places_rule}
+use Rattle.command_line.specs.Plain.{AreWords, is_word}
+use Rattle.command_line.proofs.Rows.{row}
+use Rattle.command_line.proofs.Words.{held, state, plain_met, plain_fault, at_row-new, at_row-last}
 use Rattle.command_line.proofs.Runs.{Walks, one_turn}
 
 abbrev pub place_at : ℕ → Text → Rule
@@ -164,4 +163,20 @@ many_walk s i name before rows pending w ws q new are fine words =
       fine = more.fine;
       walk_is = ap (λ (x : Walk). fold (walked c []) x (ws ++ [])) step ∙ more.walk_is;
       fault_is = one_turn s _ _ w (ws ++ []) step (many_turn s idle i name w rows pending first q words.0 ∙ fine) ∙ more.fault_is;
+    }
+
+-- the last positional behind a run
+pub run_many : (s : Shape) (from : Walk) (words : List Text) (rows : List Row) (i : ℕ) (name w : Text) (ws : List Text) → IsPlace s.rules i name (places_at i name) → has_row name rows ≡ false → AreWords (w ∷ ws)
+    → Walks s from words (w ∷ ws) rows idle i → Walks s from (words ++ (w ∷ ws)) [] (rows ++ row name (w ∷ ws) ∷ []) positional i
+run_many s from words rows i name w ws q new plain h =
+    let last = many_walk s i name rows h.done h.pending w ws q new h.rows_are h.fine plain in
+    let end : (w ∷ ws) ++ [] ≡ w ∷ ws = append-nil (w ∷ ws) in
+    let all : (words ++ (w ∷ ws)) ++ [] ≡ words ++ (w ∷ ws) = append-nil (words ++ (w ∷ ws)) in
+    record {
+      done = last.done;
+      pending = last.pending;
+      rows_are = last.rows_are;
+      fine = last.fine;
+      walk_is = ap (λ (ws : List Text). fold (walked s.rules []) from ws) all ∙ h.walk_is ∙ sym (ap (λ (ws : List Text). fold (walked s.rules []) (state h.done h.pending idle i) ws) end) ∙ last.walk_is;
+      fault_is = ap (λ (ws : List Text). walk_fault s [] from ws) all ∙ h.fault_is ∙ sym (ap (λ (ws : List Text). walk_fault s [] (state h.done h.pending idle i) ws) end) ∙ last.fault_is;
     }

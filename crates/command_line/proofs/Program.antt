@@ -1,22 +1,17 @@
 -- A line of the program is read as its command reads the words behind the first.
-use Rattle.std.proofs.Common.{◌≡◌, ℕ, ◌+◌, ◌==◌, ◌&&◌, ◌||◌, not, min, cond, Bool, true, false, List, [], ◌∷◌, ◌++◌, Option, Some, None, refl, sym, ap, ap₂, ◌∙◌, codes, option_map}
+use Rattle.std.proofs.Common.{◌≡◌, true, false, List, [], ◌∷◌, Option, Some, None, refl, sym, ap, ap₂, ◌∙◌, codes, option_map}
 use Rattle.std.specs.Prelude.{fold, find, is_some}
-use Rattle.std.specs.List.{list_all, list_any}
-use Rattle.std.specs.Str.{bytes_eq}
 use Rattle.std.specs.Option.{option_map_or}
-use Rattle.clap.specs.Walk.{Held, Row, Rule, Text, Waiting, Walk, answers_to, default_rows, has_row, idle, is_empty, nothing_held, positional, reading_by, rows_after, settled, stop_after, walk, walk_from, walked, with_default}
-use Rattle.clap.specs.Simple.{Shape, App, argument_words, built, built_leaf, entered, inherited, label_of, names_of, rows_at, subcommand_of}
+use Rattle.clap.specs.Walk.{Row, Text, Walk, answers_to, idle, nothing_held, settled, walk, walk_from, walked, with_default}
+use Rattle.clap.specs.Simple.{Shape, App, built, built_leaf, entered, inherited, label_of, names_of, rows_at, subcommand_of}
 use Rattle.clap.specs.Kinds.{Kinds, or_else}
-use Rattle.clap.specs.Faults.{built_fault, check_fault, default_fault, defaults_fault, entered_fault, fault_of, given_default_fault, level_fault, settle_fault, walk_fault}
-use Rattle.clap.specs.Takes.{is_given}
+use Rattle.clap.specs.Faults.{check_fault, defaults_fault, entered_fault, fault_of, level_fault, settle_fault, walk_fault}
 use Rattle.clap.proofs.OnLiterals.{clap_on_literals}
-use Rattle.clap.proofs.SimpleLemmas.{is_nil}
 use Rattle.clap.proofs.WalkLemmas.{walk_stopped}
 use Rattle.clap.proofs.FaultLemmas.{stopped_fault}
 use Rattle.command_line.specs.Table.{gate_app, gate_top, simulate_shape, decode_shape, encode_shape, render_shape, verify_shape, make_shape, serve_shape}
-use Rattle.command_line.proofs.Words.{held, state}
-use Rattle.command_line.proofs.Runs.{Walks}
-use Rattle.command_line.specs.Lines.{Said, is_none, line_by, line_of}
+use Rattle.command_line.proofs.Words.{state}
+use Rattle.command_line.specs.Lines.{is_none, line_by, line_of}
 use Rattle.command_line.proofs.Accepted.{line_taken}
 use Rattle.command_line.proofs.Ends.{IsRead}
 

@@ -1,21 +1,13 @@
 -- Runs of words that are walked without a fault.
-use Rattle.std.proofs.Common.{◌≡◌, ℕ, ◌+◌, ◌==◌, ◌&&◌, ◌||◌, not, min, cond, Bool, true, false, List, [], ◌∷◌, ◌++◌, Option, Some, None, refl, sym, ap, ◌∙◌, nat_lt, append-nil, append_assoc, subst, codes}
-use Rattle.std.specs.Prelude.{nat_eq, option_and_then, fold}
-use Rattle.clap.specs.declared.builder.value_parser.Reading.TheVariants as reading
-use Rattle.clap.specs.declared.parser.matches.ValueSource.TheVariants.{CommandLine}
-use Rattle.clap.specs.declared.error.kind.ErrorKind.TheVariants as kind
-use Rattle.std.specs.Option.{option_map_or}
-use Rattle.std.specs.Cmp.Lexicographic.{pointwise}
-use Rattle.std.specs.Str.{bytes_eq}
-use Rattle.clap.specs.Lexer.{long_of, long_of_rest, short_of, short_of_rest, strip_byte, usize_max}
-use Rattle.clap.specs.Walk.{Held, Outcome, Row, Rule, Step, Text, Waiting, Walk, after_flag, after_step, arg_by_id, arg_by_index, arg_by_long, at_row, has_row, idle, is_pending, long_met, long_or_other, more_values, next, option, option_word, plain_word, positional, positional_held, pushed, reacted, settled, settled_rows, short_or_plain, subcommand_met, subcommand_or_other, takes_several, to_positional, trailing, used_by_id, value, walked, walk_from, with_values, without, word_met}
-use Rattle.clap.specs.Simple.{Shape, filled, with_index}
+use Rattle.std.proofs.Common.{◌≡◌, ℕ, Bool, true, false, List, [], ◌∷◌, ◌++◌, Option, Some, refl, sym, ap, ◌∙◌, append-nil, append_assoc, subst}
+use Rattle.std.specs.Prelude.{fold}
+use Rattle.clap.specs.Walk.{Row, Rule, Text, Waiting, Walk, has_row, idle, settled_rows, walked}
+use Rattle.clap.specs.Simple.{Shape}
 use Rattle.clap.specs.Kinds.{Kinds, or_else}
-use Rattle.clap.specs.Faults.{bundle_fault, flag_word_fault, long_fault, other_fault, positional_fault, settle_fault, step_fault, stray_fault, turn_fault, use_fault, walk_fault, word_fault}
-use Rattle.command_line.specs.Table.{flag_rule, option_rule, place_rule, places_rule}
-use Rattle.command_line.specs.Plain.{AreWords, is_word, option_words}
+use Rattle.clap.specs.Faults.{settle_fault, turn_fault, walk_fault}
+use Rattle.command_line.specs.Plain.{is_word, option_words}
 use Rattle.command_line.proofs.Rows.{row, option_rows}
-use Rattle.command_line.proofs.Words.{IsOption, held, state, value_rule, plain_met, plain_fault, or_else-nil, at_row-new, at_row-last, option_walked, option_turn, value_walked, value_turn, used_rows, used_fault}
+use Rattle.command_line.proofs.Words.{IsOption, held, state, option_walked, option_turn, value_walked, value_turn, used_rows, used_fault}
 
 -- each is known, is said once and has a value that does not begin with `-`
 abbrev pub OptionsFit : List Rule → List Row → List (Text × Text) → Type 0

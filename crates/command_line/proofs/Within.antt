@@ -1,5 +1,5 @@
 -- What a line says is in its ranges.
-use Rattle.std.proofs.Common.{◌≡◌, ℕ, suc, ◌-◌, ◌^◌, ◌≤◌, ◌&&◌, nat_le, min, cond, Bool, true, false, List, length, Option, Some, None, refl, sym, ap, ◌∙◌, subst, codes, arith, option_map}
+use Rattle.std.proofs.Common.{◌≡◌, ℕ, suc, ◌-◌, ◌^◌, ◌≤◌, ◌&&◌, nat_le, min, cond, Bool, true, false, List, length, Option, Some, None, refl, sym, subst, codes, arith, option_map}
 use Rattle.std.specs.Prelude.{option_and_then}
 use Rattle.std.specs.Str.{bytes_eq}
 use Rattle.std.specs.Str.Parse.{digits_value}

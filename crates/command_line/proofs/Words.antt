@@ -1,20 +1,20 @@
 -- One word of a plain line.
-use Rattle.std.proofs.Common.{◌≡◌, ℕ, ◌+◌, ◌==◌, ◌&&◌, ◌||◌, not, min, cond, Bool, true, false, List, [], ◌∷◌, ◌++◌, Option, Some, None, refl, sym, ap, ◌∙◌, nat_lt, append-nil, append_assoc, subst, codes}
-use Rattle.std.specs.Prelude.{nat_eq, option_and_then, fold}
+use Rattle.std.proofs.Common.{◌≡◌, ℕ, ◌==◌, ◌&&◌, ◌||◌, not, cond, Bool, true, false, List, [], ◌∷◌, ◌++◌, Option, Some, None, refl, ap, ◌∙◌, nat_lt, append-nil}
+use Rattle.std.specs.Prelude.{nat_eq, option_and_then}
 use Rattle.clap.specs.declared.builder.value_parser.Reading.TheVariants as reading
 use Rattle.clap.specs.declared.parser.matches.ValueSource.TheVariants.{CommandLine}
 use Rattle.clap.specs.declared.error.kind.ErrorKind.TheVariants as kind
 use Rattle.std.specs.Option.{option_map_or}
 use Rattle.std.specs.Cmp.Lexicographic.{pointwise}
 use Rattle.std.specs.Str.{bytes_eq}
-use Rattle.clap.specs.Lexer.{long_of, long_of_rest, short_of, short_of_rest, strip_byte, usize_max}
-use Rattle.clap.specs.Walk.{Held, Outcome, Row, Rule, Step, Text, Waiting, Walk, after_flag, after_step, arg_by_id, arg_by_index, arg_by_long, at_row, has_row, idle, is_pending, long_met, long_or_other, more_values, next, option, option_word, plain_word, positional, positional_held, pushed, reacted, settled, settled_rows, short_or_plain, subcommand_met, subcommand_or_other, takes_several, to_positional, trailing, used_by_id, value, walked, walk_from, with_values, without, word_met}
-use Rattle.clap.specs.Simple.{Shape, filled, with_index}
+use Rattle.clap.specs.Lexer.{long_of, long_of_rest, short_of_rest, strip_byte}
+use Rattle.clap.specs.Walk.{Held, Row, Rule, Step, Text, Waiting, Walk, after_flag, after_step, arg_by_id, arg_by_long, at_row, has_row, idle, long_met, long_or_other, more_values, next, option, option_word, plain_word, settled, settled_rows, short_or_plain, subcommand_or_other, trailing, used_by_id, walked, with_values, word_met}
+use Rattle.clap.specs.Simple.{Shape, filled}
 use Rattle.clap.specs.Kinds.{Kinds, or_else}
-use Rattle.clap.specs.Faults.{bundle_fault, flag_word_fault, long_fault, other_fault, positional_fault, settle_fault, step_fault, stray_fault, turn_fault, use_fault, walk_fault, word_fault}
-use Rattle.command_line.specs.Table.{flag_rule, option_rule, place_rule, places_rule}
-use Rattle.command_line.specs.Plain.{AreWords, is_word, option_words}
-use Rattle.command_line.proofs.Rows.{row, option_rows}
+use Rattle.clap.specs.Faults.{bundle_fault, flag_word_fault, long_fault, other_fault, settle_fault, step_fault, turn_fault, use_fault, word_fault}
+use Rattle.command_line.specs.Table.{option_rule}
+use Rattle.command_line.specs.Plain.{is_word}
+use Rattle.command_line.proofs.Rows.{row}
 
 -- a walk between two words, that has not met `--`
 abbrev pub held : List Row → Option (Text × List Text) → Held

@@ -2,7 +2,7 @@
 ghost use Rattle.std.specs.Prelude.{◌≡◌, List, Some};
 ghost use Rattle.command_line.specs.Lines.{Said, Text, line_of};
 ghost use Rattle.command_line.specs.Ranges.{IsWithin};
-ghost use Rattle.command_line.specs.Plain.{PlainDecode, PlainEncode};
+ghost use Rattle.command_line.specs.Plain.{PlainDecode, PlainEncode, PlainVerify, PlainMake, PlainRender};
 
 /// What a line says is in its ranges.
 pub fn lines_are_within()
@@ -17,4 +17,19 @@ pub fn plain_decode_lines()
 /// What a plain line of `encode` says.
 pub fn plain_encode_lines()
     ensures { PlainEncode }
+{}
+
+/// What a plain line of `verify` says.
+pub fn plain_verify_lines()
+    ensures { PlainVerify }
+{}
+
+/// What a plain line of `make` says.
+pub fn plain_make_lines()
+    ensures { PlainMake }
+{}
+
+/// What a plain line of `render` says.
+pub fn plain_render_lines()
+    ensures { PlainRender }
 {}
