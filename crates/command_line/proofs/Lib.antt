@@ -12,3 +12,5 @@ pub mod DecodeLines
 pub mod VerifyLines
 pub mod MakeLines
 pub mod RenderLines
+pub mod SimulateRows
+pub mod SimulateLines

@@ -2,7 +2,7 @@
 ghost use Rattle.std.specs.Prelude.{◌≡◌, List, Some};
 ghost use Rattle.command_line.specs.Lines.{Said, Text, line_of};
 ghost use Rattle.command_line.specs.Ranges.{IsWithin};
-ghost use Rattle.command_line.specs.Plain.{PlainDecode, PlainEncode, PlainVerify, PlainMake, PlainRender};
+ghost use Rattle.command_line.specs.Plain.{PlainDecode, PlainEncode, PlainVerify, PlainMake, PlainRender, PlainSimulate};
 
 /// What a line says is in its ranges.
 pub fn lines_are_within()
@@ -32,4 +32,9 @@ pub fn plain_make_lines()
 /// What a plain line of `render` says.
 pub fn plain_render_lines()
     ensures { PlainRender }
+{}
+
+/// What a plain line of `simulate` says.
+pub fn plain_simulate_lines()
+    ensures { PlainSimulate }
 {}

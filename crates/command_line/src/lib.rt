@@ -11,7 +11,7 @@ mod values;
 
 pub use laws::{
     lines_are_within, plain_decode_lines, plain_encode_lines, plain_make_lines, plain_render_lines,
-    plain_verify_lines,
+    plain_simulate_lines, plain_verify_lines,
 };
 pub use line::{Command, FilesLine, Line, ServeLine, ServeOptions};
 pub use read::{Refusal, read_line};
