@@ -14,3 +14,5 @@ pub mod MakeLines
 pub mod RenderLines
 pub mod SimulateRows
 pub mod SimulateLines
+pub mod ServeRows
+pub mod ServeLines

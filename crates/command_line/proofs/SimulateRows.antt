@@ -1,28 +1,24 @@
 -- What is found in a plain line of simulate.
-use Rattle.std.proofs.Common.{◌≡◌, ℕ, ◌+◌, ◌==◌, ◌&&◌, ◌||◌, not, cond, Bool, true, false, List, [], ◌∷◌, ◌++◌, Option, Some, None, refl, sym, ap, ◌∙◌, ap₂, append-nil, append_assoc, subst, codes, option_map}
+use Rattle.std.proofs.Common.{◌≡◌, ℕ, ◌||◌, not, cond, Bool, true, false, List, [], ◌∷◌, ◌++◌, Option, Some, None, refl, sym, ap, ◌∙◌, ap₂, subst, codes, option_map}
 use Rattle.std.specs.Prelude.{find, fold, drop, unwrap_or, option_and_then, slice_get}
 use Rattle.clap.specs.Simple.{filled}
 use Rattle.clap.specs.declared.builder.value_parser.Reading.TheVariants as reading
-use Rattle.clap.specs.declared.parser.matches.ValueSource.TheVariants.{CommandLine, DefaultValue}
-use Rattle.std.specs.List.{list_all}
+use Rattle.clap.specs.declared.parser.matches.ValueSource.TheVariants.{DefaultValue}
 use Rattle.std.specs.Option.{option_map_or}
 use Rattle.std.specs.Str.{bytes_eq}
 use Rattle.clap.specs.Facts.{explicit_source}
-use Rattle.clap.specs.Walk.{Row, Rule, Text, Walk, first_of, has_row, idle, is_empty, more_values, settled_rows, walked, with_default, with_values}
+use Rattle.clap.specs.Walk.{Row, Rule, Text, first_of, has_row, more_values, with_default, with_values}
 use Rattle.clap.specs.Kinds.{Kinds, check_kinds, or_else}
-use Rattle.clap.specs.Faults.{check_fault, defaults_fault, settle_fault, walk_fault}
+use Rattle.clap.specs.Faults.{check_fault, defaults_fault}
 use Rattle.clap.specs.Takes.{is_given}
 use Rattle.command_line.specs.Table.{flag_rule, simulate_shape}
-use Rattle.command_line.specs.Plain.{PlainSimulate, SimulateOnce, SimulateOption, has_word, is_word, over_files, pcm, says_pcm, seed_said, seeded, simulate_has, simulate_name, simulate_words}
+use Rattle.command_line.specs.Plain.{SimulateOnce, SimulateOption, has_word, over_files, pcm, says_pcm, seed_said, seeded, simulate_has, simulate_name}
 use Rattle.command_line.proofs.Rows.{default_row, find_new, find_other, row}
-use Rattle.command_line.proofs.Words.{IsOption, at_row-new, held, option_turn, option_walked, state, used_fault, used_rows, value_turn, value_walked}
-use Rattle.command_line.proofs.Runs.{Walks, one_turn}
-use Rattle.command_line.proofs.Flags.{IsAlone, alone_turn, alone_walked}
-use Rattle.command_line.proofs.Places.{IsPlace, place_at, place_walk}
-use Rattle.command_line.proofs.Ends.{leaf_ends, no_defaults}
-use Rattle.command_line.proofs.Program.{leaf, line_says, simulate_sub}
+use Rattle.command_line.proofs.Words.{at_row-new}
+use Rattle.command_line.proofs.Ends.{no_defaults}
+use Rattle.command_line.proofs.Program.{leaf}
 use Rattle.command_line.specs.Values.{seed_or}
-use Rattle.command_line.specs.Lines.{Said, files_line, files_of, is_flagged, is_true_text, text_of, voice_of}
+use Rattle.command_line.specs.Lines.{files_line, files_of, is_flagged, is_true_text, text_of, voice_of}
 use Rattle.command_line.specs.declared.line.Command.{Command}
 use Rattle.command_line.specs.declared.line.Command.TheVariants.{Simulate}
 use Rattle.command_line.specs.declared.line.Line.TheVariants.{Files}

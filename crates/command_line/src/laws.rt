@@ -2,7 +2,7 @@
 ghost use Rattle.std.specs.Prelude.{◌≡◌, List, Some};
 ghost use Rattle.command_line.specs.Lines.{Said, Text, line_of};
 ghost use Rattle.command_line.specs.Ranges.{IsWithin};
-ghost use Rattle.command_line.specs.Plain.{PlainDecode, PlainEncode, PlainVerify, PlainMake, PlainRender, PlainSimulate};
+ghost use Rattle.command_line.specs.Plain.{PlainDecode, PlainEncode, PlainVerify, PlainMake, PlainRender, PlainSimulate, PlainServe};
 
 /// What a line says is in its ranges.
 pub fn lines_are_within()
@@ -37,4 +37,9 @@ pub fn plain_render_lines()
 /// What a plain line of `simulate` says.
 pub fn plain_simulate_lines()
     ensures { PlainSimulate }
+{}
+
+/// What a plain line of `serve` says.
+pub fn plain_serve_lines()
+    ensures { PlainServe }
 {}
