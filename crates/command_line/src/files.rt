@@ -1,10 +1,11 @@
 // Lines over files.
-ghost use Rattle.std.specs.Prelude.{◌≡◌, ◌∷◌, [], map, IfOk, codes};
+ghost use Rattle.std.specs.Prelude.{◌≡◌, ◌∷◌, [], map, IfOk, IsErrOf, None, Some, codes};
 ghost use Rattle.clap.specs.Words.{first_of, found_of, rows_of};
-ghost use Rattle.command_line.specs.Lines.{command_of, files_of, inputs_of, is_flagged, make_of, render_of, simulate_of, text_of, texts_of, verify_of};
+ghost use Rattle.command_line.specs.Lines.{command_of, files_line, files_of, inputs_of, is_flagged, make_of, render_of, simulate_of, text_of, texts_of, verify_of};
 
-use crate::line::{Command, FilesLine};
-use crate::values::{count_at, is_said, read_number, seed_at, text_at, texts_behind};
+use crate::found::{count_at, is_said, seed_at, text_at, texts_behind};
+use crate::line::{Command, FilesLine, Line, Refusal};
+use crate::values::read_number;
 use clap::ArgMatches;
 use std::alloc::{AllocError, Global};
 
@@ -51,8 +52,8 @@ fn make(seed: &str, count: &str, filers: &str) -> Option<Command>
     })
 }
 
-/// The command of this name, where the values of its options are in their ranges.
-pub fn command_of(name: &str, matches: &ArgMatches<'_>) -> Option<Command>
+// The command of this name, where the values of its options are in their ranges.
+fn command_of(name: &str, matches: &ArgMatches<'_>) -> Option<Command>
     ensures { result ≡ command_of name.now (rows_of (found_of matches.now)) }
 {
     match name {
@@ -98,8 +99,8 @@ fn inputs_of<'a>(
     }
 }
 
-/// The line of a command, with the words of its places.
-pub fn files_of<'a>(
+// The line of a command, with the words of its places.
+fn files_of<'a>(
     alloc: Global,
     command: Command,
     matches: &ArgMatches<'a>,
@@ -113,4 +114,22 @@ pub fn files_of<'a>(
         inputs,
         output,
     })
+}
+
+/// The line over files that was matched under this name. `Usage` where a value is out of its range.
+pub fn files_line<'a>(
+    alloc: Global,
+    name: &str,
+    matches: &ArgMatches<'a>,
+) -> Result<Line<'a>, Refusal>
+    ensures line { IfOk result (λ l. files_line name.now (rows_of (found_of matches.now)) ≡ Some l) }
+    ensures usage { IsErrOf result Refusal.Usage → files_line name.now (rows_of (found_of matches.now)) ≡ None }
+{
+    let Some(command) = command_of(name, matches) else {
+        return Err(Refusal::Usage);
+    };
+    match files_of(alloc, command, matches) {
+        Ok(line) => Ok(Line::Files(line)),
+        Err(_) => Err(Refusal::OutOfMemory),
+    }
 }

@@ -2,6 +2,7 @@
 #![tactic(auto)]
 
 mod files;
+mod found;
 mod laws;
 mod line;
 mod read;
@@ -13,8 +14,8 @@ pub use laws::{
     lines_are_within, plain_decode_lines, plain_encode_lines, plain_make_lines, plain_render_lines,
     plain_simulate_lines, plain_verify_lines,
 };
-pub use line::{Command, FilesLine, Line, ServeLine, ServeOptions};
-pub use read::{Refusal, read_line};
+pub use line::{Command, FilesLine, Line, Refusal, ServeLine, ServeOptions};
+pub use read::read_line;
 
 #[cfg(test)]
 mod tests;

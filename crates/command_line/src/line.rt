@@ -93,3 +93,12 @@ pub enum Line<'a> {
     /// The gateway runs on sockets.
     Serve(ServeLine<'a>),
 }
+
+/// Why words were not read.
+#[derive(Clone, Copy, Debug, PartialEq, Eq)]
+pub enum Refusal {
+    /// The words are no line of the program.
+    Usage,
+    /// Memory ran out.
+    OutOfMemory,
+}

@@ -3,25 +3,16 @@ ghost use Rattle.std.specs.Prelude.{◌≡◌, Some, None, true, false, map, IfO
 ghost use Rattle.std.specs.String.{string_bytes};
 ghost use Rattle.clap.specs.Words.{found_of, rows_of, subcommand_of, subcommand_rows_of};
 ghost use Rattle.command_line.specs.Table.{gate_app};
-ghost use Rattle.command_line.specs.Lines.{files_line, is_taken, line_by, line_in, line_of};
+ghost use Rattle.command_line.specs.Lines.{is_taken, line_by, line_in, line_of};
 ghost use Rattle.command_line.specs.Ranges.{IsWithin};
 
-use crate::files::{command_of, files_of};
-use crate::line::Line;
+use crate::files::files_line;
+use crate::line::{Line, Refusal};
 use crate::serve::serve_line;
 use crate::table::gate;
 use clap::ArgMatches;
 use clap::error::ErrorKind;
 use std::alloc::Global;
-
-/// Why words were not read.
-#[derive(Clone, Copy, Debug, PartialEq, Eq)]
-pub enum Refusal {
-    /// The words are no line of the program.
-    Usage,
-    /// Memory ran out.
-    OutOfMemory,
-}
 
 // The matches of the words.
 fn matches_of<'a>(alloc: Global, words: &'a [String]) -> Result<ArgMatches<'a>, Refusal>
@@ -42,20 +33,7 @@ fn matches_of<'a>(alloc: Global, words: &'a [String]) -> Result<ArgMatches<'a>, 
     }
 }
 
-// The line over files that was matched under this name.
-fn files_line<'a>(alloc: Global, name: &str, matches: &ArgMatches<'a>) -> Result<Line<'a>, Refusal>
-    ensures line { IfOk result (λ l. files_line name.now (rows_of (found_of matches.now)) ≡ Some l) }
-    ensures usage { IsErrOf result Refusal.Usage → files_line name.now (rows_of (found_of matches.now)) ≡ None }
-{
-    let Some(command) = command_of(name, matches) else {
-        return Err(Refusal::Usage);
-    };
-    match files_of(alloc, command, matches) {
-        Ok(line) => Ok(Line::Files(line)),
-        Err(_) => Err(Refusal::OutOfMemory),
-    }
-}
-
+// The line that was matched under this name.
 fn line_by<'a>(alloc: Global, name: &str, matches: &ArgMatches<'a>) -> Result<Line<'a>, Refusal>
     ensures line { IfOk result (λ l. line_by name.now (rows_of (found_of matches.now)) ≡ Some l) }
     ensures usage { IsErrOf result Refusal.Usage → line_by name.now (rows_of (found_of matches.now)) ≡ None }
@@ -67,6 +45,7 @@ fn line_by<'a>(alloc: Global, name: &str, matches: &ArgMatches<'a>) -> Result<Li
     }
 }
 
+// The line that was matched.
 fn line_in<'a>(alloc: Global, matches: &ArgMatches<'a>) -> Result<Line<'a>, Refusal>
     ensures line { IfOk result (λ l. line_in (subcommand_rows_of matches.now) ≡ Some l) }
     ensures usage { IsErrOf result Refusal.Usage → line_in (subcommand_rows_of matches.now) ≡ None }

@@ -2,11 +2,9 @@
 ghost use Rattle.std.specs.Prelude.{◌≡◌, ◌≤◌, ◌-◌, ◌^◌, IfOk, IsErrOf, None, Some, codes};
 ghost use Rattle.clap.specs.Words.{found_of, rows_of};
 ghost use Rattle.command_line.specs.Lines.{are_links, options_of, serve_line, serve_of, serve_texts, texts_of};
-ghost use Rattle.command_line.specs.declared.line.Line.TheVariants.{Serve};
 
-use crate::line::{Line, ServeLine, ServeOptions};
-use crate::read::Refusal;
-use crate::values::{count_at, number_at, seed_at, text_at, texts_at};
+use crate::found::{count_at, number_at, seed_at, text_at, texts_at};
+use crate::line::{Line, Refusal, ServeLine, ServeOptions};
 use clap::ArgMatches;
 use std::alloc::{AllocError, Global};
 

@@ -2,8 +2,8 @@ use Rattle.std.proofs.Common.{◌≡◌, ◌∙◌, ap, map, Err, Result}
 use Rattle.std.specs.String.{string_bytes}
 use Rattle.std.proofs.lemmas.Result.{IfOk-weaker}
 use Rattle.command_line.specs.declared.line.Line.{Line}
-use Rattle.command_line.specs.declared.read.Refusal.{Refusal}
-use Rattle.command_line.specs.declared.read.Refusal.TheVariants.{Usage}
+use Rattle.command_line.specs.declared.line.Refusal.{Refusal}
+use Rattle.command_line.specs.declared.line.Refusal.TheVariants.{Usage}
 use Rattle.command_line.proofs.Accepted.{line_refused, line_taken}
 use Rattle.command_line.proofs.Within.{line_within}
 use Rattle.command_line.proofs.read.read_line.Goals as goal

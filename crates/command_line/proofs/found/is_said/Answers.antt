@@ -2,7 +2,7 @@ use Rattle.std.proofs.Common.{◌∙◌, ap}
 use Rattle.clap.specs.Words.{found_of}
 use Rattle.clap.proofs.WalkLemmas.{first_value-rows}
 use Rattle.command_line.specs.Lines.{is_true_text}
-use Rattle.command_line.proofs.values.is_said.Goals as goal
+use Rattle.command_line.proofs.found.is_said.Goals as goal
 
 pub returns-in-Some : goal.returns-in-Some
 returns-in-Some c = c.eq.ensures ∙ ap is_true_text (c.in-Some.ensures ∙ first_value-rows (found_of c.args.matches.now) c.args.name.now)

@@ -2,7 +2,7 @@ use Rattle.std.proofs.Common.{◌∙◌, ap}
 use Rattle.clap.specs.Words.{found_of}
 use Rattle.clap.proofs.WalkLemmas.{first_value-rows}
 use Rattle.command_line.specs.Values.{seed_or}
-use Rattle.command_line.proofs.values.seed_at.Goals as goal
+use Rattle.command_line.proofs.found.seed_at.Goals as goal
 
 pub returns-in-Some : goal.returns-in-Some
 returns-in-Some c = c.read_seed.ensures ∙ ap seed_or (c.in-Some.ensures ∙ first_value-rows (found_of c.args.matches.now) c.args.name.now)
