@@ -1,15 +1,7 @@
 // A line of the program.
-ghost use Rattle.std.specs.Prelude.{◌≡◌, map};
-ghost use Rattle.std.specs.String.{string_bytes};
-ghost use Rattle.command_line.specs.Lines.{is_plain, line_of, over_files, render_line, simulate_behind, simulate_line, voice_of};
-
-use crate::options::{take_flag, take_seed};
 use std::marker::Model;
 
-/// The seed of a line that says none.
-const NO_SEED: [u8; 32] = [0; 32];
-
-/// The commands of the program, with the values of their options.
+/// The commands over files, with the values of their options.
 #[derive(Clone, Copy, Debug, PartialEq, Eq)]
 pub enum Command {
     /// A script becomes a player's journal, or with a voice's seed the speech that it plays.
@@ -20,117 +12,93 @@ pub enum Command {
     Encode,
     /// A player's journal becomes the speech that it played, by a voice of this seed.
     Render { seed: [u8; 32] },
+    /// A player's journal and the filers' are replayed, and the findings are written.
+    Verify,
+    /// A script of `count` events with `filers` filers is made from a seed.
+    Make { seed: u64, count: u32, filers: u32 },
 }
 
-/// A line of the program: its command, and the words that name its places.
+/// The options of `serve`.
+#[derive(Clone, Copy, Debug, PartialEq, Eq)]
+pub struct ServeOptions {
+    /// The ring has 2 to this power frames: 0 to 10.
+    pub ring: u32,
+    /// Frames between filing and playing: less than the ring has.
+    pub delay: u32,
+    /// The seed of the voice for erased frames.
+    pub seed: [u8; 32],
+    /// Ticks of 20 ms that are played: 1 to 16000000.
+    pub ticks: u64,
+    /// Ticks between two reports: 1 to 65535.
+    pub report: u32,
+    /// The source of what is sent.
+    pub ssrc: u32,
+    /// The sequence number of the first packet that is sent.
+    pub sequence: u16,
+    /// The timestamp of the first packet that is sent.
+    pub stamp: u32,
+}
+
+/// A line over files: its command, and the words that name its places.
 #[derive(Drop)]
-pub struct Line<'a> {
+pub struct FilesLine<'a> {
     /// What is done.
     pub command: Command,
     /// The files that are read, in the order of the words.
-    pub inputs: &'a [String],
+    pub inputs: Vec<&'a str>,
     /// The file that is written.
     pub output: &'a str,
 }
 
-impl<'a> Model for Line<'a> {
+impl<'a> Model for FilesLine<'a> {
     ghost use Rattle.std.specs.Prelude.{map};
-    ghost use Rattle.std.specs.String.{string_bytes};
-    ghost use Rattle.command_line.specs.Lines.{Said};
+    ghost use Rattle.command_line.specs.Said.{FilesSaid};
 
-    ghost Value = { Said };
+    ghost Value = { FilesSaid };
 
-    ghost view = { λ l. record { command = l.command; inputs = map string_bytes l.inputs.now; output = l.output.now } };
+    ghost view = { λ l. record { command = l.command; inputs = map (λ t. t.now) l.inputs.items; output = l.output.now } };
 }
 
-// Whether the word stands for itself, and is no option.
-fn is_plain(word: &str) -> bool
-    ensures { result ≡ is_plain word.now }
-{
-    match word.as_bytes() {
-        [first, ..] => *first != b'-',
-        [] => true,
-    }
+/// A line of `serve`: its options, and the words that name its places.
+#[derive(Drop)]
+pub struct ServeLine<'a> {
+    /// The values of the options, or their defaults.
+    pub options: ServeOptions,
+    /// The addresses that are listened on, one a filer, in the order of the words.
+    pub listen: Vec<&'a str>,
+    /// The address that replies go to.
+    pub reply: &'a str,
+    /// Where the speech that is played goes.
+    pub speaker: &'a str,
+    /// Where the speech that is sent comes from.
+    pub microphone: &'a str,
+    /// What the names of the journals begin with.
+    pub journals: &'a str,
 }
 
-// A command over one input and one output.
-fn over_files<'a>(command: Command, words: &'a [String]) -> Option<Line<'a>>
-    ensures { result ≡ over_files command (map string_bytes words.entry.now) }
-{
-    match words {
-        [input, output] if is_plain(input.as_str()) && is_plain(output.as_str()) => Some(Line {
-            command,
-            inputs: &words[..1],
-            output: output.as_str(),
-        }),
-        _ => None,
-    }
+impl<'a> Model for ServeLine<'a> {
+    ghost use Rattle.std.specs.Prelude.{map};
+    ghost use Rattle.command_line.specs.Said.{ServeSaid};
+
+    ghost Value = { ServeSaid };
+
+    ghost view = { λ l. record { options = l.options; listen = map (λ t. t.now) l.listen.items; reply = l.reply.now; speaker = l.speaker.now; microphone = l.microphone.now; journals = l.journals.now } };
 }
 
-// The voice of a line that says --pcm or not.
-fn voice_of(spoken: bool, seed: Option<[u8; 32]>) -> Option<[u8; 32]>
-    ensures { result ≡ voice_of spoken seed }
-{
-    if spoken {
-        Some(seed.unwrap_or(NO_SEED))
-    } else {
-        None
-    }
+/// A line of the program.
+#[derive(Drop)]
+pub enum Line<'a> {
+    /// A command over files.
+    Files(FilesLine<'a>),
+    /// The gateway runs on sockets.
+    Serve(ServeLine<'a>),
 }
 
-// What the words of `simulate` behind the seed say. The flag stands before the seed or behind it.
-fn simulate_behind<'a>(
-    before: bool,
-    seed: Option<[u8; 32]>,
-    words: &'a [String],
-) -> Option<Line<'a>>
-    ensures { result ≡ simulate_behind before seed (map string_bytes words.entry.now) }
-{
-    if before {
-        let voice = voice_of(true, seed);
-        return over_files(Command::Simulate { voice }, words);
-    }
-    let (spoken, words) = take_flag("--pcm", words);
-    let voice = voice_of(spoken, seed);
-    over_files(Command::Simulate { voice }, words)
-}
-
-// What the words behind `simulate` say.
-fn simulate_line<'a>(words: &'a [String]) -> Option<Line<'a>>
-    ensures { result ≡ simulate_line (map string_bytes words.entry.now) }
-{
-    let (before, words) = take_flag("--pcm", words);
-    match take_seed(words) {
-        Some((seed, words)) => simulate_behind(before, seed, words),
-        None => None,
-    }
-}
-
-// What the words behind `render` say.
-fn render_line<'a>(words: &'a [String]) -> Option<Line<'a>>
-    ensures { result ≡ render_line (map string_bytes words.entry.now) }
-{
-    match take_seed(words) {
-        Some((seed, words)) => {
-            let seed = seed.unwrap_or(NO_SEED);
-            over_files(Command::Render { seed }, words)
-        }
-        None => None,
-    }
-}
-
-/// What the words say, where they are a line of the program. No memory is taken: the places are the words themselves.
-pub fn line_of<'a>(words: &'a [String]) -> Option<Line<'a>>
-    ensures { result ≡ line_of (map string_bytes words.entry.now) }
-{
-    match words {
-        [command, rest @ ..] => match command.as_str() {
-            "simulate" => simulate_line(rest),
-            "decode" => over_files(Command::Decode, rest),
-            "encode" => over_files(Command::Encode, rest),
-            "render" => render_line(rest),
-            _ => None,
-        },
-        [] => None,
-    }
+/// Why words were not read.
+#[derive(Clone, Copy, Debug, PartialEq, Eq)]
+pub enum Refusal {
+    /// The words are no line of the program.
+    Usage,
+    /// Memory ran out.
+    OutOfMemory,
 }

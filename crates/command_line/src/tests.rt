@@ -1,26 +1,48 @@
-use crate::line::{Command, line_of};
+use crate::{Command, Line, Refusal, ServeOptions, read_line};
 use std::alloc::{AllocError, Global};
 use std::test::Fail;
 
+// The words of a text, where '' is the empty word.
 fn words(alloc: Global, line: &str) -> Result<Vec<String>, AllocError> {
     let mut words = Vec::new(alloc);
     for word in line.split_whitespace() {
+        let word = if word == "''" { "" } else { word };
         words.push(String::from_str(alloc, word)?)?;
     }
     Ok(words)
 }
 
-// Whether the words are a line of this command, which reads `in` and writes `out`.
-fn says(alloc: Global, line: &str, command: Command) -> Result<bool, AllocError> {
+fn joined(alloc: Global, words: &[&str]) -> Result<String, AllocError> {
+    let mut text = String::new(alloc);
+    for word in words {
+        text.push_str(word)?;
+        text.push_str(" ")?;
+    }
+    Ok(text)
+}
+
+// The command of a line over files that reads these and writes `out`.
+fn command(alloc: Global, line: &str, inputs: &str) -> Result<Option<Command>, AllocError> {
     let words = words(alloc, line)?;
-    match line_of(&words) {
-        Some(said) => Ok(
-            said.command == command
-                && said.inputs.len() == 1
-                && said.inputs[0].as_str() == "in"
-                && said.output == "out",
-        ),
-        None => Ok(false),
+    match read_line(alloc, &words) {
+        Ok(Line::Files(said)) => {
+            let read = joined(alloc, &said.inputs)?;
+            if read.as_str() == inputs && said.output == "out" {
+                Ok(Some(said.command))
+            } else {
+                Ok(None)
+            }
+        }
+        _ => Ok(None),
+    }
+}
+
+// Whether the words are no line.
+fn is_refused(alloc: Global, line: &str) -> Result<bool, AllocError> {
+    let words = words(alloc, line)?;
+    match read_line(alloc, &words) {
+        Err(Refusal::Usage) => Ok(true),
+        _ => Ok(false),
     }
 }
 
@@ -31,24 +53,76 @@ const OCTETS: [u8; 32] = [
     0x00, 0x11, 0x22, 0x33, 0x44, 0x55, 0x66, 0x77, 0x88, 0x99, 0xAA, 0xBB, 0xCC, 0xDD, 0xEE, 0xFF,
 ];
 
+fn is_command(
+    alloc: Global,
+    line: &str,
+    inputs: &str,
+    wanted: Command,
+) -> Result<bool, AllocError> {
+    match command(alloc, line, inputs)? {
+        Some(said) => Ok(said == wanted),
+        None => Ok(false),
+    }
+}
+
 #[test]
-fn a_line_says_its_command_and_its_options(rt: HostRuntime) -> Result<(), Fail> {
+fn a_line_over_files_says_its_command(rt: HostRuntime) -> Result<(), Fail> {
     let alloc = rt.alloc();
     let pcm = |seed| Command::Simulate { voice: Some(seed) };
     let journal = Command::Simulate { voice: None };
-    assert!(rt; says(alloc, "simulate in out", journal)?);
-    assert!(rt; says(alloc, "simulate --pcm in out", pcm([0; 32]))?);
-    assert!(rt; says(alloc, "decode in out", Command::Decode)?);
-    assert!(rt; says(alloc, "encode in out", Command::Encode)?);
-    assert!(rt; says(alloc, "render in out", Command::Render { seed: [0; 32] })?);
+    assert!(rt; is_command(alloc, "simulate in out", "in ", journal)?);
+    assert!(rt; is_command(alloc, "simulate --pcm in out", "in ", pcm([0; 32]))?);
+    assert!(rt; is_command(alloc, "decode in out", "in ", Command::Decode)?);
+    assert!(rt; is_command(alloc, "encode in out", "in ", Command::Encode)?);
+    assert!(rt;
+        is_command(
+            alloc,
+            "render in out",
+            "in ",
+            Command::Render { seed: [0; 32] }
+        )?
+    );
+    assert!(rt; is_command(alloc, "verify out p f0 f1", "p f0 f1 ", Command::Verify)?);
     let mut line = format!(in alloc; "simulate --seed {SEED} in out")?;
-    assert!(rt; says(alloc, line.as_str(), journal)?);
+    assert!(rt; is_command(alloc, line.as_str(), "in ", journal)?);
     line = format!(in alloc; "simulate --seed {SEED} --pcm in out")?;
-    assert!(rt; says(alloc, line.as_str(), pcm(OCTETS))?);
+    assert!(rt; is_command(alloc, line.as_str(), "in ", pcm(OCTETS))?);
     line = format!(in alloc; "simulate --pcm --seed {SEED} in out")?;
-    assert!(rt; says(alloc, line.as_str(), pcm(OCTETS))?);
+    assert!(rt; is_command(alloc, line.as_str(), "in ", pcm(OCTETS))?);
     line = format!(in alloc; "render --seed {SEED} in out")?;
-    assert!(rt; says(alloc, line.as_str(), Command::Render { seed: OCTETS })?);
+    assert!(rt;
+        is_command(
+            alloc,
+            line.as_str(),
+            "in ",
+            Command::Render { seed: OCTETS }
+        )?
+    );
+    Ok(())
+}
+
+#[test]
+fn make_says_its_numbers(rt: HostRuntime) -> Result<(), Fail> {
+    let alloc = rt.alloc();
+    let least = Command::Make {
+        seed: 0,
+        count: 1,
+        filers: 1,
+    };
+    let most = Command::Make {
+        seed: u64::MAX,
+        count: 1_000_000,
+        filers: 64,
+    };
+    assert!(rt; is_command(alloc, "make 0 01 1 out", "", least)?);
+    assert!(rt; is_command(alloc, "make 18446744073709551615 1000000 64 out", "", most)?);
+    assert!(rt; is_refused(alloc, "make 18446744073709551616 1 1 out")?);
+    assert!(rt; is_refused(alloc, "make 0 0 1 out")?);
+    assert!(rt; is_refused(alloc, "make 0 1000001 1 out")?);
+    assert!(rt; is_refused(alloc, "make 0 1 0 out")?);
+    assert!(rt; is_refused(alloc, "make 0 1 65 out")?);
+    assert!(rt; is_refused(alloc, "make +0 1 1 out")?);
+    assert!(rt; is_refused(alloc, "make '' 1 1 out")?);
     Ok(())
 }
 
@@ -61,7 +135,6 @@ fn other_words_are_no_line(rt: HostRuntime) -> Result<(), Fail> {
         "simulate a",
         "simulate a b c",
         "simulate -a b",
-        "simulate a -",
         "simulate --pcm --pcm a b",
         "simulate --seed 00 a b",
         "simulate --seed",
@@ -69,10 +142,139 @@ fn other_words_are_no_line(rt: HostRuntime) -> Result<(), Fail> {
         "render --pcm a b",
         "render a",
         "encode a b c",
+        "verify out p",
+        "help",
         "--help",
+        "--version",
+        "serve --help",
     ] {
-        let words = words(alloc, line)?;
-        assert!(rt; line_of(&words).is_none());
+        assert!(rt; is_refused(alloc, line)?);
     }
+    Ok(())
+}
+
+const PLACES: &str = "--reply r --speaker s --microphone m --journals j";
+
+// The options of a line of serve with these words before its places and one link.
+fn options(alloc: Global, before: &str) -> Result<Option<ServeOptions>, AllocError> {
+    let line = format!(in alloc; "serve {before} {PLACES} l")?;
+    let words = words(alloc, line.as_str())?;
+    match read_line(alloc, &words) {
+        Ok(Line::Serve(said)) => {
+            let listen = joined(alloc, &said.listen)?;
+            if listen.as_str() == "l "
+                && said.reply == "r"
+                && said.speaker == "s"
+                && said.microphone == "m"
+                && said.journals == "j"
+            {
+                Ok(Some(said.options))
+            } else {
+                Ok(None)
+            }
+        }
+        _ => Ok(None),
+    }
+}
+
+fn are_options(alloc: Global, before: &str, wanted: ServeOptions) -> Result<bool, AllocError> {
+    match options(alloc, before)? {
+        Some(said) => Ok(said == wanted),
+        None => Ok(false),
+    }
+}
+
+fn serves(alloc: Global, before: &str) -> Result<bool, AllocError> {
+    match options(alloc, before)? {
+        Some(_) => Ok(true),
+        None => Ok(false),
+    }
+}
+
+const DEFAULTS: ServeOptions = ServeOptions {
+    ring: 6,
+    delay: 3,
+    seed: [0; 32],
+    ticks: 15000,
+    report: 250,
+    ssrc: 1,
+    sequence: 0,
+    stamp: 0,
+};
+
+const SAID: ServeOptions = ServeOptions {
+    ring: 10,
+    delay: 1023,
+    seed: OCTETS,
+    ticks: 16_000_000,
+    report: 65535,
+    ssrc: 4_294_967_295,
+    sequence: 65535,
+    stamp: 4_294_967_295,
+};
+
+#[test]
+fn a_line_of_serve_says_its_options(rt: HostRuntime) -> Result<(), Fail> {
+    let alloc = rt.alloc();
+    assert!(rt; are_options(alloc, "", DEFAULTS)?);
+    let small = ServeOptions {
+        ring: 1,
+        delay: 1,
+        ..DEFAULTS
+    };
+    assert!(rt; are_options(alloc, "--ring 1", small)?);
+    let line = format!(in alloc;
+        "--stamp 4294967295 --sequence 65535 --ssrc 4294967295 --report 65535 --ticks 16000000 --seed {SEED} --delay 1023 --ring 10"
+    )?;
+    assert!(rt; are_options(alloc, line.as_str(), SAID)?);
+    Ok(())
+}
+
+#[test]
+fn a_value_out_of_its_range_is_no_line(rt: HostRuntime) -> Result<(), Fail> {
+    let alloc = rt.alloc();
+    for before in [
+        "--ring 11",
+        "--delay 64",
+        "--ring 0 --delay 1",
+        "--seed 00",
+        "--ticks 0",
+        "--ticks 16000001",
+        "--report 0",
+        "--report 65536",
+        "--ssrc 4294967296",
+        "--sequence 65536",
+        "--stamp 4294967296",
+        "--ring 6 --ring 6",
+        "--ring +6",
+        "--ring ''",
+    ] {
+        assert!(rt; !serves(alloc, before)?);
+    }
+    assert!(rt; serves(alloc, "--ring 0 --delay 0 --ticks 1 --report 1")?);
+    Ok(())
+}
+
+// How many links a line of serve with so many says.
+fn links(alloc: Global, count: usize) -> Result<Option<usize>, AllocError> {
+    let mut words = words(
+        alloc,
+        "serve --reply r --speaker s --microphone m --journals j",
+    )?;
+    for _ in 0..count {
+        words.push(String::from_str(alloc, "l")?)?;
+    }
+    match read_line(alloc, &words) {
+        Ok(Line::Serve(said)) => Ok(Some(said.listen.len())),
+        _ => Ok(None),
+    }
+}
+
+#[test]
+fn a_line_of_serve_has_up_to_64_links(rt: HostRuntime) -> Result<(), Fail> {
+    let alloc = rt.alloc();
+    assert!(rt; links(alloc, 0)?.is_none());
+    assert_eq!(rt; links(alloc, 64)?, Some(64));
+    assert!(rt; links(alloc, 65)?.is_none());
     Ok(())
 }

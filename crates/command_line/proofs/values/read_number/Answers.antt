@@ -1,6 +1,5 @@
-use Rattle.std.proofs.Common.{◌≡◌, ◌∙◌, sym, ap, Some, arith, subst, List, ℕ, ◌<◌, ◌≤◌, ◌^◌}
-use Rattle.std.specs.Str.Parse.{IsNumeral, digits_value, without_leading_plus}
-use Rattle.command_line.specs.Values.{number_in}
+use Rattle.std.proofs.Common.{◌≡◌, ◌∙◌, sym, ap, Some, arith}
+use Rattle.std.specs.Str.Parse.{without_leading_plus}
 use Rattle.command_line.proofs.Numerals.{is_inside, is_outside, no_plus}
 use Rattle.command_line.proofs.values.read_number.Goals as goal
 
