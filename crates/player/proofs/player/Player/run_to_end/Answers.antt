@@ -2,7 +2,7 @@ use Rattle.std.proofs.Common.{inr, refl}
 use Rattle.player.specs.Beats.{standing}
 use Rattle.player.specs.declared.run.PlayerEnd.TheVariants.{SpeakerFault, MicFault, ReplyFault}
 use Rattle.player.proofs.Running.{offered}
-use Rattle.player.proofs.player.Player.run.Goals as goal
+use Rattle.player.proofs.player.Player.run_to_end.Goals as goal
 
 pub returns-in-Ok-clause-ran : goal.returns-in-Ok-clause-ran
 returns-in-Ok-clause-ran g c = ((standing c.play_on.new.self c.play_on.new.side (g.S.PlayerSide.position c.play_on.new.side) (g.O.Sink.given c.play_on.new.speaker) (g.J.Sink.given c.play_on.new.journal) (g.I.Source.left c.play_on.new.microphone) (g.P.Link.log c.play_on.new.reply)), c.in-Ended.ensures.stopped, refl, c.in-Ok.ensures.given)
