@@ -1,5 +1,6 @@
 -- The calls of beats, one beat after the other.
 use Rattle.std.proofs.Common.{◌≡◌, ℕ, zero, suc, ◌+◌, ◌<◌, Bool, true, false, List, [], ◌∷◌, ◌++◌, length, map, replicate, Some, None, refl, sym, ap, subst, ◌∙◌, append_assoc, length-append, inl, inr, arith}
+use Rattle.std.specs.List.{AllByRecursion}
 use Rattle.std.proofs.lemmas.List.{map-append}
 use Rattle.std.proofs.lemmas.List.Concat.{flat_map-append}
 use Rattle.frame_codec.specs.declared.item.Item.{Item}
@@ -10,7 +11,7 @@ use Rattle.recorder.specs.Play.{call_text}
 use Rattle.recorder.specs.Tallies.{call_items}
 use Rattle.player.specs.declared.found.Found.{Found}
 use Rattle.player.specs.declared.found.Found.TheVariants.{Nothing, First, Next}
-use Rattle.player.specs.Beats.{Looks, calls_of, is_open, item_of}
+use Rattle.player.specs.Beats.{CanBeTold, Looks, calls_of, is_open, item_of}
 use Rattle.player.specs.Whole.{AreBeats, items_in, text_in}
 
 pub Chained-append : {S : Type 0} (did : S → Call → S → Type 0) (a b c : S) (xs ys : List Call) → Chained did a xs b → Chained did b ys c → Chained did a (xs ++ ys) c
@@ -36,6 +37,11 @@ items-more calls found = flat_map-append call_items calls (calls_of found) ∙ a
 
 pub text-more : (calls more : List Call) → text_in (calls ++ more) ≡ text_in calls ++ text_in more
 text-more calls more = flat_map-append call_text calls more
+
+-- the journal can tell more calls
+pub told-more : (xs ys : List Call) → AllByRecursion CanBeTold xs → AllByRecursion CanBeTold ys → AllByRecursion CanBeTold (xs ++ ys)
+told-more [] ys p q = q
+told-more (x ∷ xs) ys p q = (p.0, told-more xs ys p.1 q)
 
 -- ---- whether a base was seen
 

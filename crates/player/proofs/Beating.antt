@@ -1,7 +1,7 @@
 -- What a beat did.
 use Rattle.std.proofs.Common.{◌≡◌, ℕ, ◌+◌, List, ◌++◌, length, Option, Result, inl, inr, sym, ap, subst, ◌∙◌, append-nil}
 use Rattle.std.specs.Prelude.{ℤ}
-use Rattle.std.specs.List.{flat_map}
+use Rattle.std.specs.List.{flat_map, AllByRecursion}
 use Rattle.std.specs.Io.KnownBytes.{Appends}
 use Rattle.gate_io.specs.Flow.{AppendsPart, Gives}
 use Rattle.gate_io.specs.FlowLaws.{AppendsPart-longer, Gives-after}
@@ -21,7 +21,7 @@ use Rattle.player.specs.declared.found.Found.TheVariants.{First}
 use Rattle.player.specs.declared.beat.Beat.{Beat}
 use Rattle.player.specs.declared.beat.Beat.TheVariants.{Played, MicFault, ReplyFault}
 use Rattle.player.specs.Returning.{Returns, Stream}
-use Rattle.player.specs.Beats.{Beats, Hears, Looks, Playing, Replies, Speaks, Standing, Writes, beaten, calls_of, is_open, item_of}
+use Rattle.player.specs.Beats.{Beats, CanBeTold, Hears, Looks, Playing, Replies, Speaks, Standing, Writes, beaten, calls_of, is_open, item_of}
 
 -- ---- the events
 
@@ -71,14 +71,15 @@ writes-of old new text ends.ReplyFault h = h
 -- ---- a beat of its parts
 
 pub beat-is : {S : Type 0} (did : S → Call → S → Type 0) (a b : Standing S) (was : Playing) (end : Beat) (found : Found) (item : Item) (played : List ℤ)
-    → was ≡ a.player → item ≡ item_of found → Looks was.opened found → Chained did a.side (calls_of found) b.side → b.position ≡ a.position + ticks (calls_of found)
+    → was ≡ a.player → item ≡ item_of found → Looks was.opened found → AllByRecursion CanBeTold (calls_of found) → Chained did a.side (calls_of found) b.side → b.position ≡ a.position + ticks (calls_of found)
     → length played ≡ 160 → Speaks was.voice b.player.voice item played
     → b.player.tally ≡ item_counted was.tally item → b.player.opened ≡ is_open found → b.player.made ≡ was.made + 1 → b.player.ticks ≡ was.ticks
     → Hears end a.heard b.heard (sample_octets played) → Writes end a.written b.written (flat_map call_text (calls_of found))
     → Replies end was.stream b.player.stream a.left b.left a.log b.log → Beats did a b end
-beat-is did a b was end found item played is what looks side position count voice tally opened made most hears writes replies = record {
+beat-is did a b was end found item played is what looks told side position count voice tally opened made most hears writes replies = record {
   found = found;
   looks = subst (λ (p : Playing). Looks p.opened found) is looks;
+  told = told;
   side = side;
   position = position;
   played = played;

@@ -1,6 +1,7 @@
 -- Beats of a run, of which none failed, over the list of their calls.
 use Rattle.std.proofs.Common.{◌≡◌, ℕ, zero, suc, ◌+◌, ◌*◌, Bool, List, [], ◌∷◌, ◌++◌, length, Option, refl, sym, ap, subst, ◌∙◌, length-append, inl, inr, arith}
 use Rattle.std.specs.Prelude.{ℤ}
+use Rattle.std.specs.List.{AllByRecursion}
 use Rattle.std.specs.Int.{w16, cast_unsigned}
 use Rattle.std.specs.Io.KnownBytes.{Appends}
 use Rattle.std.proofs.KnownBytes.{Appends-nil, Appends-trans}
@@ -18,10 +19,10 @@ use Rattle.player.specs.declared.beat.Beat.{Beat}
 use Rattle.player.specs.declared.beat.Beat.TheVariants as beat
 use Rattle.player.specs.declared.return_stream.ReturnEnd.TheVariants as ends
 use Rattle.player.specs.Returning.{Returns, next_packet}
-use Rattle.player.specs.Beats.{Beats, Playing, Standing, Starts, calls_of, item_of}
+use Rattle.player.specs.Beats.{Beats, CanBeTold, Playing, Standing, Starts, calls_of, item_of}
 use Rattle.player.specs.PlayerRuns.{PlaysOn}
 use Rattle.player.specs.Whole.{Sent, items_in, text_in}
-use Rattle.player.proofs.BeatCalls.{Chained-append, Shaped, Shaped-more, items-more, text-more, ticks-more}
+use Rattle.player.proofs.BeatCalls.{Chained-append, Shaped, Shaped-more, items-more, text-more, ticks-more, told-more}
 use Rattle.player.proofs.Serving.{Serving, Serving-coded, Serving-none, Serving-silent, sent-more, sent-none}
 
 pub octets-more : (xs ys : List ℤ) → sample_octets (xs ++ ys) ≡ sample_octets xs ++ sample_octets ys
@@ -34,6 +35,7 @@ pub record Asked {S : Type 0} (did : S → Call → S → Type 0) (seed : List �
   pub side : Chained did a.side calls b.side
   pub position : b.position ≡ a.position + ticks calls
   pub shape : Shaped b.player.opened made calls
+  pub told : AllByRecursion CanBeTold calls
   pub voice : Voices seed (items_in calls) samples b.player.voice
   pub count : length samples ≡ 160 * made
   pub tally : b.player.tally ≡ play_tally (items_in calls)
@@ -43,6 +45,7 @@ Asked-none did seed own sequence stamp most a s = record {
   side = refl;
   position = omega arith;
   shape = subst (λ (o : Bool). Shaped o 0 []) (sym s.opened) refl;
+  told = tt;
   voice = s.voice;
   count = refl;
   tally = s.tally;
@@ -59,6 +62,7 @@ module _ {S : Type 0} (did : S → Call → S → Type 0) (seed : List ℕ) (mad
     side = Chained-append did a.side m.side b.side calls (calls_of x.found) asked.side x.side;
     position = ticks-more a.position m.position b.position calls (calls_of x.found) asked.position x.position;
     shape = subst (λ (o : Bool). Shaped o (suc made) (calls ++ calls_of x.found)) (sym (ap (λ (p : Playing). p.opened) x.player)) (Shaped-more m.player.opened made calls x.found x.looks asked.shape);
+    told = told-more calls (calls_of x.found) asked.told x.told;
     voice = subst (λ (l : List Item). Voices seed l (samples ++ x.played) b.player.voice) (sym (items-more calls x.found)) (x.voice seed (items_in calls) samples asked.voice);
     count = omega (arith, length-append samples x.played, asked.count, x.count);
     tally = tally-more calls (calls_of x.found) (item_of x.found) m.player.tally b.player.tally (items-more calls x.found) asked.tally (ap (λ (p : Playing). p.tally) x.player);

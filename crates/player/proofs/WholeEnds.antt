@@ -71,12 +71,12 @@ told did seed own sequence stamp before now n a b end calls samples behind asked
 }
   where
     gave : PlayerGave seed own sequence stamp before now n calls (ports a) (ports b) end
-    gave = record { beats = are-beats b.player.opened n calls asked.shape; samples = samples; heard = asked.voice.heard; speaker = speaker; served = behind; journal = journal; reply = reply }
+    gave = record { beats = are-beats b.player.opened n calls asked.shape; told = asked.told; samples = samples; heard = asked.voice.heard; speaker = speaker; served = behind; journal = journal; reply = reply }
 
 -- what was asked stands whatever the journal was given then
 marked : {S : Type 0} (did : S → Call → S → Type 0) (seed : List ℕ) (n : ℕ) (calls : List Call) (samples : List ℤ) (a m : Standing S) (written : Option (List ℕ)) → Asked did seed n calls samples a m
     → Asked did seed n calls samples a (with_written m written)
-marked did seed n calls samples a m written s = record { side = s.side; position = s.position; shape = s.shape; voice = s.voice; count = s.count; tally = s.tally }
+marked did seed n calls samples a m written s = record { side = s.side; position = s.position; shape = s.shape; told = s.told; voice = s.voice; count = s.count; tally = s.tally }
 
 -- ---- no beat failed
 

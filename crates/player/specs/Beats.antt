@@ -1,13 +1,14 @@
 -- What a player does in a beat.
-use Rattle.std.specs.Prelude.{◌≡◌, ◌≢◌, ◌⊎◌, ℕ, ◌+◌, Bool, true, false, List, [], ◌∷◌, ◌++◌, length, ℤ, Option, Some, None}
-use Rattle.std.specs.List.{flat_map}
+use Rattle.std.specs.Prelude.{◌≡◌, ◌≢◌, ◌⊎◌, ℕ, ◌+◌, ◌<◌, ◌^◌, Bool, true, false, List, [], ◌∷◌, ◌++◌, length, ℤ, Option, Some, None}
+use Rattle.std.specs.List.{flat_map, AllByRecursion}
 use Rattle.std.specs.Io.KnownBytes.{Appends}
 use Rattle.gate_io.specs.Flow.{AppendsPart}
 use Rattle.gate_io.specs.Links.{LinkLog}
+use Rattle.frame_codec.specs.Octets.{IsFrame}
 use Rattle.frame_codec.specs.declared.item.Item.{Item}
 use Rattle.frame_codec.specs.declared.item.Item.TheVariants as items
 use Rattle.play_machine.specs.declared.call.Call.{Call}
-use Rattle.play_machine.specs.declared.call.Call.TheVariants.{PeekCall, TickCall}
+use Rattle.play_machine.specs.declared.call.Call.TheVariants.{FileCall, SourceCall, BaseCall, PeekCall, TickCall}
 use Rattle.play_machine.specs.History.{Chained, ticks}
 use Rattle.recorder.specs.declared.tally.PlayTally.{PlayTally}
 use Rattle.recorder.specs.Play.{call_text}
@@ -81,6 +82,17 @@ Looks opened Nothing = opened ≡ false
 Looks opened (First base item) = (opened ≡ false) × (item ≢ items.Idle)
 Looks opened (Next item) = (opened ≡ true) × (item ≢ items.Idle)
 
+-- the journal can tell a call of the player: its base fits its field, and its item is a frame or an erasure
+abbrev pub CanBeTold : Call → Type 0
+CanBeTold (FileCall n f reply) = ⊥
+CanBeTold (SourceCall x held) = ⊥
+CanBeTold (BaseCall x held) = ⊥
+CanBeTold (PeekCall None) = Unit {0}
+CanBeTold (PeekCall (Some base)) = base < 2 ^ 32
+CanBeTold (TickCall items.Idle) = ⊥
+CanBeTold (TickCall (items.Frame f)) = IsFrame f
+CanBeTold (TickCall items.Erasure) = Unit {0}
+
 -- ---- a beat
 
 -- what was kept is what stood before, with one beat more
@@ -120,6 +132,7 @@ Replies ReplyFault old new left left_now log log_now = Returns old new left left
 pub record Beats {S : Type 0} (did : S → Call → S → Type 0) (a b : Standing S) (end : Beat) : Type 0 where
   pub found : Found
   pub looks : Looks a.player.opened found
+  pub told : AllByRecursion CanBeTold (calls_of found)
   pub side : Chained did a.side (calls_of found) b.side
   pub position : b.position ≡ a.position + ticks (calls_of found)
   pub played : List ℤ

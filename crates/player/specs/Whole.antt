@@ -1,6 +1,6 @@
 -- What a player's run comes to, over the list of all its calls.
 use Rattle.std.specs.Prelude.{◌≡◌, ◌⊎◌, ℕ, suc, ◌+◌, ◌-◌, ◌*◌, ◌<◌, ◌≤◌, List, [], ◌∷◌, ◌++◌, length, take, map, replicate, ℤ, Option, Some, None, IfSome}
-use Rattle.std.specs.List.{flat_map}
+use Rattle.std.specs.List.{flat_map, AllByRecursion}
 use Rattle.std.specs.Io.KnownBytes.{Appends, IsAtEnd}
 use Rattle.gate_base.specs.Faults.{Rose}
 use Rattle.gate_io.specs.Flow.{ConsumesSome}
@@ -15,7 +15,7 @@ use Rattle.recorder.specs.Tallies.{call_items, play_tally}
 use Rattle.substitution.specs.Heard.{IsHeard, sample_octets}
 use Rattle.player.specs.declared.run.PlayerEnd.{PlayerEnd}
 use Rattle.player.specs.declared.run.PlayerEnd.TheVariants.{Ended, SpeakerFault, JournalFault, MicFault, ReplyFault}
-use Rattle.player.specs.Beats.{Standing}
+use Rattle.player.specs.Beats.{CanBeTold, Standing}
 use Rattle.player.specs.Pieces.{CutsOff}
 use Rattle.player.specs.Returning.{Stream, Streams}
 
@@ -116,6 +116,7 @@ pub record Ports : Type 0 where
 -- What a run of so many beats with these calls gave, from its first beat on. The journal's count of faults was `before` and is `now`.
 pub record PlayerGave (seed : List ℕ) (own sequence stamp before now made : ℕ) (calls : List Call) (a b : Ports) (end : PlayerEnd) : Type 0 where
   pub beats : AreBeats made calls
+  pub told : AllByRecursion CanBeTold calls
   pub samples : List ℤ
   pub heard : IsHeard seed (items_in calls) samples
   pub speaker : SpeakerHas end made a.heard b.heard (sample_octets samples)

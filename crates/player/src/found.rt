@@ -1,11 +1,11 @@
 // What a beat finds on its side.
 ghost use Rattle.std.specs.Prelude.{◌≡◌, ◌<◌, ◌+◌, ◌^◌};
-ghost use Rattle.std.specs.List.{flat_map};
+ghost use Rattle.std.specs.List.{flat_map, AllByRecursion};
 ghost use Rattle.gate_base.specs.Faults.{HasCause};
 ghost use Rattle.gate_io.specs.Flow.{Gives};
 ghost use Rattle.play_machine.specs.History.{Chained, ticks};
 ghost use Rattle.recorder.specs.Play.{call_text};
-ghost use Rattle.player.specs.Beats.{Looks, calls_of, is_open, item_of};
+ghost use Rattle.player.specs.Beats.{CanBeTold, Looks, calls_of, is_open, item_of};
 
 use frame_codec::Item;
 use gate_io::{Failed, Sink};
@@ -27,6 +27,7 @@ pub enum Found {
 pub fn look<S: PlayerSide>(opened: bool, side: &mut S) -> Found
     requires position { S.position side.old < 2 ^ 33 }
     ensures looks { Looks opened result }
+    ensures told { AllByRecursion CanBeTold (calls_of result) }
     ensures side { Chained S.did side.old (calls_of result) side.new }
     ensures position { S.position side.new ≡ S.position side.old + ticks (calls_of result) }
 {

@@ -15,7 +15,7 @@ returns-in-Err-clause-beats g c =
     let was : Playing = record { voice = inside.voice; stream = inside.stream; tally = inside.tally; opened = inside.opened; made = inside.made; ticks = inside.ticks } in
     let spoken = c.in-Err.ensures.spoken in
     beat-is g.S.PlayerSide.did _ _ was SpeakerFault c.look-found.result c.item_of_found-item.result spoken.0 c.self.view_is c.item_of_found-item.ensures
-    c.look-found.ensures.looks c.look-found.ensures.side c.look-found.ensures.position spoken.3 spoken.2 c.item.ensures c.opens-self-inside.ensures refl refl
+    c.look-found.ensures.looks c.look-found.ensures.told c.look-found.ensures.side c.look-found.ensures.position spoken.3 spoken.2 c.item.ensures c.opens-self-inside.ensures refl refl
     spoken.1 refl (refl, refl, refl)
 
 pub returns-in-Err-write_found-clause-beats : goal.returns-in-Err-write_found-clause-beats
@@ -24,7 +24,7 @@ returns-in-Err-write_found-clause-beats g c =
     let was : Playing = record { voice = inside.voice; stream = inside.stream; tally = inside.tally; opened = inside.opened; made = inside.made; ticks = inside.ticks } in
     let spoken = c.in_default.ensures.spoken in
     beat-is g.S.PlayerSide.did _ _ was JournalFault c.look-found.result c.item_of_found-item.result spoken.0 c.self.view_is c.item_of_found-item.ensures
-    c.look-found.ensures.looks c.look-found.ensures.side c.look-found.ensures.position spoken.3 spoken.2 c.item.ensures c.opens-self-inside.ensures refl refl
+    c.look-found.ensures.looks c.look-found.ensures.told c.look-found.ensures.side c.look-found.ensures.position spoken.3 spoken.2 c.item.ensures c.opens-self-inside.ensures refl refl
     spoken.1 c.in-Err-write_found.ensures.given (refl, refl, refl)
 
 pub returns-clause-beats : goal.returns-clause-beats
@@ -46,6 +46,6 @@ returns-clause-beats g c =
     c.look-found.new.side (g.S.PlayerSide.position c.look-found.new.side) (g.O.Sink.given c.speak.new.speaker) (g.J.Sink.given c.write_found.new.journal) (g.I.Source.left c.send.new.microphone) (g.P.Link.log c.send.new.reply)) e)
     (sym end-is)
     (beat-is g.S.PlayerSide.did _ _ was (beat_of r) found c.item_of_found-item.result spoken.0 c.self.view_is c.item_of_found-item.ensures
-    c.look-found.ensures.looks c.look-found.ensures.side c.look-found.ensures.position spoken.3 spoken.2 c.item.ensures c.opens-self-inside.ensures refl refl
+    c.look-found.ensures.looks c.look-found.ensures.told c.look-found.ensures.side c.look-found.ensures.position spoken.3 spoken.2 c.item.ensures c.opens-self-inside.ensures refl refl
     (hears-of _ _ (sample_octets spoken.0) r spoken.1) (writes-of _ _ (flat_map call_text (calls_of found)) r c.in_default-write_found.ensures.given)
     (replies-of _ _ _ _ _ _ r c.send.ensures.returns))

@@ -1,0 +1,2 @@
+pub mod OneSpeech
+pub mod OneHeard

@@ -1,0 +1,6 @@
+//! Laws of what is heard: it is one for a list of items, and a player's journal gives back what its speaker got.
+#![tactic(auto)]
+
+mod laws;
+
+pub use laws::{heard_is_one, speech_is_one};
