@@ -1,0 +1,4 @@
+pub mod CameSo
+pub mod Carried
+pub mod Enlisting
+pub mod Places
