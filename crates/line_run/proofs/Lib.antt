@@ -1,4 +1,5 @@
 pub mod CameSo
 pub mod Carried
 pub mod Enlisting
+pub mod Halves
 pub mod Places

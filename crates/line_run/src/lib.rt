@@ -3,6 +3,7 @@
 #![tactic(auto)]
 
 mod caller;
+mod fan;
 mod line;
 mod opening;
 mod options;
