@@ -3,13 +3,16 @@
 #![tactic(auto)]
 
 mod caller;
+mod ends;
 mod fan;
+mod gathering;
 mod line;
 mod opening;
 mod options;
 mod plan;
 mod player_caller;
 
+pub use ends::FilerEnds;
 pub use gate_base::OutOfMemory;
 pub use line::Line;
 pub use opening::open_line;
