@@ -59,6 +59,13 @@ module _ {A : Type 0} where
   here_set (x ∷ xs) zero a h = refl
   here_set (x ∷ xs) (suc i) a h = here_set xs i a (omega arith)
 
+  -- an element of a front
+  pub taken_at : (n : ℕ) (xs : List A) (i : ℕ) (d : A) → i < length (take n xs) → slice_get (take n xs) i ≡ Some (get_or xs i d)
+  taken_at zero xs i d low = absurd (omega arith)
+  taken_at (suc n) [] i d low = absurd (omega arith)
+  taken_at (suc n) (x ∷ xs) zero d low = refl
+  taken_at (suc n) (x ∷ xs) (suc i) d low = taken_at n xs i d (omega arith)
+
 -- a place is in the front or behind it
 pub cut : (n i : ℕ) → (i < n) ⊎ ((j : ℕ) × (i ≡ n + j))
 cut zero i = inr (i, omega arith)
