@@ -3,3 +3,8 @@ mod Running
 mod Samples
 mod Streaming
 mod Returned
+mod BeatCalls
+mod Serving
+mod WholeBeats
+mod WholeEnds
+mod WholeRun

@@ -1,5 +1,5 @@
 -- What a call of the return stream did.
-use Rattle.std.proofs.Common.{◌≡◌, ℕ, List, [], ◌∷◌, ◌++◌, false, Option, subst, inl, inr}
+use Rattle.std.proofs.Common.{◌≡◌, ℕ, List, [], ◌∷◌, ◌++◌, false, Option, subst}
 use Rattle.std.specs.Prelude.{ℤ, ◌⊎◌}
 use Rattle.frame_codec.specs.Frame.{Fields, Spells}
 use Rattle.frame_codec.specs.Octets.{IsFrame}

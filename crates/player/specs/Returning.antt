@@ -6,7 +6,6 @@ use Rattle.gate_io.specs.Links.{GoesTo, LinkLog, with_sent}
 use Rattle.frame_codec.specs.Frame.{Fields, Spells}
 use Rattle.frame_codec.specs.Octets.{IsFrame}
 use Rattle.fr_encoder.specs.Coding.{Encodes, Held}
-use Rattle.rtp_codec.specs.declared.head.RtpHead.{RtpHead}
 use Rattle.rtp_codec.specs.Packets.{head_octets}
 use Rattle.substitution.specs.Heard.{sample_octets}
 use Rattle.player.specs.Pieces.{IsPiece, whole_piece}

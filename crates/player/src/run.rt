@@ -1,8 +1,9 @@
 // A player from its first beat to its last.
-ghost use Rattle.std.specs.Prelude.{◌≡◌, ◌≤◌, ◌+◌, ◌^◌, ◌⊎◌, ℕ, true};
+ghost use Rattle.std.specs.Prelude.{◌≡◌, ◌≤◌, ◌+◌, ◌^◌, ◌⊎◌, ℕ, List, true};
 ghost use Rattle.gate_base.specs.Faults.{Rose};
-ghost use Rattle.player.specs.Beats.{standing};
+ghost use Rattle.player.specs.Beats.{Starts, standing};
 ghost use Rattle.player.specs.PlayerRuns.{PlayerRan, Stopped};
+ghost use Rattle.player.specs.Whole.{PlayerTold};
 ghost use Rattle.player.specs.declared.run.PlayerEnd.{PlayerEnd};
 
 use crate::beat::Beat;
@@ -31,6 +32,40 @@ impl Player {
     /// gives the journal its end mark, but for a journal that has failed. The journal's head is the caller's to give.
     /// It waits as long as the clock does, and behind the last beat no more.
     pub fn run<S: PlayerSide, I: Source, O: Sink, J: Sink, P: Link, C: TickClock>(
+        &mut self,
+        side: &mut S,
+        clock: &mut C,
+        speaker: &mut O,
+        journal: &mut J,
+        microphone: &mut I,
+        reply: &mut P,
+    ) -> PlayerEnd
+        requires made { self.old.made ≡ 0 }
+        requires position { S.position side.old ≡ 2 ^ 32 }
+        ensures told { (seed : List ℕ) (own sequence stamp most : ℕ) → Starts seed own sequence stamp most self.old
+            → PlayerTold S.did seed own sequence stamp (J.faults journal.old) (J.faults journal.new) (standing self.old side.old (S.position side.old) (O.given speaker.old) (J.given journal.old) (I.left microphone.old) (P.log reply.old)) (standing self.new side.new (S.position side.new) (O.given speaker.new) (J.given journal.new) (I.left microphone.new) (P.log reply.new)) result }
+        ensures ran { PlayerRan S.did (J.faults journal.old) (J.faults journal.new) (standing self.old side.old (S.position side.old) (O.given speaker.old) (J.given journal.old) (I.left microphone.old) (P.log reply.old)) (standing self.new side.new (S.position side.new) (O.given speaker.new) (J.given journal.new) (I.left microphone.new) (P.log reply.new)) result }
+        ensures ticks { C.ticks clock.new ≡ C.ticks clock.old + self.new.made }
+        ensures most { self.new.ticks ≡ self.old.ticks }
+        ensures within { self.new.made ≤ self.old.ticks }
+        ensures ended { result ≡ PlayerEnd.Ended → (C.ended clock.new ≡ true) ⊎ (self.new.made ≡ self.old.ticks) }
+        ensures open { P.ended reply.new ≡ P.ended reply.old }
+        ensures speaker_later { O.faults speaker.old ≤ O.faults speaker.new }
+        ensures speaker_fault { result ≡ PlayerEnd.SpeakerFault → Rose (O.faults speaker.old) (O.faults speaker.new) }
+        ensures journal_later { J.faults journal.old ≤ J.faults journal.new }
+        ensures journal_fault { result ≡ PlayerEnd.JournalFault → Rose (J.faults journal.old) (J.faults journal.new) }
+        ensures mic_later { I.faults microphone.old ≤ I.faults microphone.new }
+        ensures mic_fault { result ≡ PlayerEnd.MicFault → Rose (I.faults microphone.old) (I.faults microphone.new) }
+        ensures reply_later { P.faults reply.old ≤ P.faults reply.new }
+        ensures reply_fault { result ≡ PlayerEnd.ReplyFault → Rose (P.faults reply.old) (P.faults reply.new) }
+        ensures speaker_kin { O.kin speaker.old speaker.new }
+        ensures journal_kin { J.kin journal.old journal.new }
+    {
+        self.run_to_end(side, clock, speaker, journal, microphone, reply)
+    }
+
+    // The same, told beat by beat.
+    fn run_to_end<S: PlayerSide, I: Source, O: Sink, J: Sink, P: Link, C: TickClock>(
         &mut self,
         side: &mut S,
         clock: &mut C,

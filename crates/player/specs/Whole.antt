@@ -1,0 +1,137 @@
+-- What a player's run comes to, over the list of all its calls.
+use Rattle.std.specs.Prelude.{◌≡◌, ◌⊎◌, ℕ, suc, ◌+◌, ◌-◌, ◌*◌, ◌<◌, ◌≤◌, List, [], ◌∷◌, ◌++◌, length, take, map, replicate, ℤ, Option, Some, None, IfSome}
+use Rattle.std.specs.List.{flat_map}
+use Rattle.std.specs.Io.KnownBytes.{Appends, IsAtEnd}
+use Rattle.gate_base.specs.Faults.{Rose}
+use Rattle.gate_io.specs.Flow.{ConsumesSome}
+use Rattle.gate_io.specs.Links.{GoesTo, LinkLog}
+use Rattle.frame_codec.specs.declared.item.Item.{Item}
+use Rattle.play_machine.specs.declared.call.Call.{Call}
+use Rattle.play_machine.specs.declared.call.Call.TheVariants.{PeekCall, TickCall}
+use Rattle.play_machine.specs.History.{Chained, ticks}
+use Rattle.recorder.specs.Files.{end_mark}
+use Rattle.recorder.specs.Play.{call_text}
+use Rattle.recorder.specs.Tallies.{call_items, play_tally}
+use Rattle.substitution.specs.Heard.{IsHeard, sample_octets}
+use Rattle.player.specs.declared.run.PlayerEnd.{PlayerEnd}
+use Rattle.player.specs.declared.run.PlayerEnd.TheVariants.{Ended, SpeakerFault, JournalFault, MicFault, ReplyFault}
+use Rattle.player.specs.Beats.{Standing}
+use Rattle.player.specs.Pieces.{CutsOff}
+use Rattle.player.specs.Returning.{Stream, Streams}
+
+-- what the calls give to be heard
+abbrev pub items_in : List Call → List Item
+items_in calls = flat_map call_items calls
+
+-- what the journal has of the calls
+abbrev pub text_in : List Call → List ℕ
+text_in calls = flat_map call_text calls
+
+-- The calls of so many beats: each looks for a base in vain; from the one on that sees it each takes an item.
+abbrev pub AreBeats : ℕ → List Call → Type 0
+AreBeats made calls =
+    (calls ≡ replicate made (PeekCall None))
+    ⊎ ((idle base : ℕ) × (items : List Item) × (0 < length items) × (made ≡ idle + length items)
+    × (calls ≡ replicate idle (PeekCall None) ++ PeekCall (Some base) ∷ map TickCall items))
+
+-- the calls of all beats but the last
+pub record ButLast (made : ℕ) (calls earlier : List Call) : Type 0 where
+  pub last : List Call
+  pub count : ℕ
+  pub one_more : made ≡ suc count
+  pub beats : AreBeats count earlier
+  pub calls_are : calls ≡ earlier ++ last
+
+-- ---- the speaker
+
+-- it has what is heard of all beats, 320 octets each; where it failed, of all but the last, and a front of that one
+abbrev pub SpeakerHas : PlayerEnd → ℕ → Option (List ℕ) → Option (List ℕ) → List ℕ → Type 0
+SpeakerHas Ended made old new octets = Appends old new octets
+SpeakerHas SpeakerFault made old new octets = (k : ℕ) × (320 * (made - 1) ≤ k) × Appends old new (take k octets)
+SpeakerHas JournalFault made old new octets = Appends old new octets
+SpeakerHas MicFault made old new octets = Appends old new octets
+SpeakerHas ReplyFault made old new octets = Appends old new octets
+
+-- ---- the journal
+
+-- the text, and behind it the end mark, or nothing of that where the journal's count rose
+abbrev pub MarkedBehind : Option (List ℕ) → Option (List ℕ) → ℕ → ℕ → List ℕ → Type 0
+MarkedBehind old new before now text = Appends old new (text ++ end_mark ∷ []) ⊎ (Appends old new text × Rose before now)
+
+-- What the journal has by the end of a run, and how many of the beats asked the return stream and were answered without a fault. The journal's count of
+-- faults was `before` and is `now`.
+abbrev pub Journaled : PlayerEnd → ℕ → ℕ → ℕ → List Call → Option (List ℕ) → Option (List ℕ) → ℕ → Type 0
+Journaled Ended before now made calls old new served = Appends old new (text_in calls ++ end_mark ∷ []) × (served ≡ made)
+Journaled SpeakerFault before now made calls old new served =
+    (earlier : List Call) × ButLast made calls earlier × MarkedBehind old new before now (text_in earlier) × (made ≡ suc served)
+Journaled JournalFault before now made calls old new served =
+    ((earlier : List Call) × (k : ℕ) × ButLast made calls earlier × (length (text_in earlier) ≤ k) × Appends old new (take k (text_in calls)) × (made ≡ suc served))
+    ⊎ ((k : ℕ) × Appends old new (text_in calls ++ take k (end_mark ∷ [])) × (served ≡ made))
+Journaled MicFault before now made calls old new served = MarkedBehind old new before now (text_in calls) × (made ≡ suc served)
+Journaled ReplyFault before now made calls old new served = MarkedBehind old new before now (text_in calls) × (made ≡ suc served)
+
+-- ---- the return stream
+
+-- so many beats took these pieces of the microphone, one each until it ended, and these are their packets
+pub record Served (own sequence stamp beats : ℕ) (left left_now : Option (List ℕ)) (pieces packets : List (List ℕ)) : Type 0 where
+  pub stream : Stream
+  pub streams : Streams own sequence stamp pieces packets stream
+  pub few : length pieces ≤ beats
+  pub ended : length pieces < beats → IsAtEnd left_now
+  pub taken : IfSome left (λ octets. (rest : List ℕ) × (left_now ≡ Some rest) × CutsOff octets pieces rest)
+
+-- the packets were sent, and nothing else was done
+abbrev pub Sent : List (List ℕ) → LinkLog → LinkLog → Type 0
+Sent packets a b = b ≡ record a { sent = a.sent ++ packets }
+
+-- the same, the last of them sent or not
+abbrev pub SentOrNot : List (List ℕ) → LinkLog → LinkLog → Type 0
+SentOrNot packets a b = Sent packets a b ⊎ ((earlier : List (List ℕ)) × (last : List ℕ) × (packets ≡ earlier ++ last ∷ []) × Sent earlier a b)
+
+-- What the microphone and the reply link did by the end of a run, of which so many beats were answered. A microphone that failed may have lost some octets
+-- of one more piece; a reply link that failed was given one more packet, and sent it or not.
+abbrev pub Returned : PlayerEnd → ℕ → ℕ → ℕ → ℕ → Option (List ℕ) → Option (List ℕ) → Option LinkLog → Option LinkLog → Type 0
+Returned Ended own sequence stamp served left left_now log log_now =
+    (pieces packets : List (List ℕ)) × Served own sequence stamp served left left_now pieces packets × GoesTo log log_now (Sent packets)
+Returned SpeakerFault own sequence stamp served left left_now log log_now =
+    (pieces packets : List (List ℕ)) × Served own sequence stamp served left left_now pieces packets × GoesTo log log_now (Sent packets)
+Returned JournalFault own sequence stamp served left left_now log log_now =
+    (pieces packets : List (List ℕ)) × Served own sequence stamp served left left_now pieces packets × GoesTo log log_now (Sent packets)
+Returned MicFault own sequence stamp served left left_now log log_now =
+    (pieces packets : List (List ℕ)) × (mid : Option (List ℕ)) × Served own sequence stamp served left mid pieces packets × (length pieces ≡ served)
+    × ConsumesSome mid left_now × GoesTo log log_now (Sent packets)
+Returned ReplyFault own sequence stamp served left left_now log log_now =
+    (pieces packets : List (List ℕ)) × Served own sequence stamp (suc served) left left_now pieces packets × (length pieces ≡ suc served)
+    × GoesTo log log_now (SentOrNot packets)
+
+-- ---- the whole run
+
+-- the objects of a player: what its speaker and its journal were given, what is left of its microphone, and what its reply link tells
+pub record Ports : Type 0 where
+  pub heard : Option (List ℕ)
+  pub written : Option (List ℕ)
+  pub left : Option (List ℕ)
+  pub log : Option LinkLog
+
+-- What a run of so many beats with these calls gave, from its first beat on. The journal's count of faults was `before` and is `now`.
+pub record PlayerGave (seed : List ℕ) (own sequence stamp before now made : ℕ) (calls : List Call) (a b : Ports) (end : PlayerEnd) : Type 0 where
+  pub beats : AreBeats made calls
+  pub samples : List ℤ
+  pub heard : IsHeard seed (items_in calls) samples
+  pub speaker : SpeakerHas end made a.heard b.heard (sample_octets samples)
+  pub served : ℕ
+  pub journal : Journaled end before now made calls a.written b.written served
+  pub reply : Returned end own sequence stamp served a.left b.left a.log b.log
+
+-- the objects of a player at one moment
+abbrev pub ports : {S : Type 0} → Standing S → Ports
+ports s = record { heard = s.heard; written = s.written; left = s.left; log = s.log }
+
+-- All calls of a whole run, what it gave, and that all of them were counted, of a player with this seed and these first numbers that had made no beat. The
+-- journal's count of faults was `before` and is `now`.
+pub record PlayerTold {S : Type 0} (did : S → Call → S → Type 0) (seed : List ℕ) (own sequence stamp before now : ℕ) (a b : Standing S) (end : PlayerEnd) : Type 0 where
+  pub calls : List Call
+  pub side : Chained did a.side calls b.side
+  pub position : b.position ≡ a.position + ticks calls
+  pub gave : PlayerGave seed own sequence stamp before now b.player.made calls (ports a) (ports b) end
+  pub tally : b.player.tally ≡ play_tally (items_in calls)
