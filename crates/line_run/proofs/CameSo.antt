@@ -23,7 +23,7 @@ pub rose_from : (before mid now : ℕ) → before ≤ mid → Rose mid now → R
 rose_from before mid now le h = grind arith
 
 -- a call that did not fail gave all
-gave : {T E : Type 0} (old new : Option (List ℕ)) (r : Result T E) (bs : List ℕ) → Gives old new r bs → is_err r ≡ false → Appends old new bs
+pub gave : {T E : Type 0} (old new : Option (List ℕ)) (r : Result T E) (bs : List ℕ) → Gives old new r bs → is_err r ≡ false → Appends old new bs
 gave old new (Ok x) bs h e = h
 gave old new (Err x) bs h e = absurd (apart e)
   where

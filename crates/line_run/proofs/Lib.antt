@@ -5,3 +5,4 @@ pub mod Enlisting
 pub mod Halves
 pub mod Leaving
 pub mod Places
+pub mod Sounded

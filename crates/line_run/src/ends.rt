@@ -53,6 +53,6 @@ impl FilerEnds {
         requires { i < length self.now }
         ensures { slice_get self.now i ≡ Some result.now }
     {
-        &self.kept[i]
+        &self.kept[..self.count][i]
     }
 }
