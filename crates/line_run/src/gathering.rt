@@ -1,11 +1,14 @@
 // The callers of a line leave its ring, and the ring is closed.
-ghost use Rattle.std.specs.Prelude.{◌≡◌, ◌≤◌, length};
+ghost use Rattle.std.specs.Prelude.{◌≡◌, ◌≤◌, length, map};
 ghost use Rattle.slot_ring.specs.Remains.{Ended};
-ghost use Rattle.line_run.specs.Callers.{AreLists, AreNumbered, GatheredOne, HasLists, HasPass, PlayerThere};
+ghost use Rattle.line_run.specs.Callers.{AreLists, AreNumbered, GatheredOne, HasLists, HasPass, PlayerThere, told};
 
 use crate::caller::Caller;
+use crate::ends::FilerEnds;
+use crate::line_end::LineEnd;
 use crate::player_caller::PlayerCaller;
 use slot_ring::{Blank, Gather, Left, SlotRing, Steps};
+use std::marker::Brand;
 use std::sync::ledger;
 use std::sync::ledger::Ledger;
 
@@ -44,8 +47,8 @@ fn gather_filers<L: Ledger>(
     }
 }
 
-/// All callers leave and are gathered, and the ring is closed.
-pub(crate) fn leave_and_close<L: Ledger>(
+// All leave, and the ring is closed.
+fn leave_and_close<L: Ledger>(
     ring: SlotRing,
     mut callers: Vec<Caller>,
     player: PlayerCaller,
@@ -69,4 +72,32 @@ pub(crate) fn leave_and_close<L: Ledger>(
     let departed = ring.leave_player(pass, &mut steps);
     ring.gather(&mut gather, departed, &mut steps);
     ring.close(gather)
+}
+
+/// What came of all callers. They leave and are gathered, and the ring is closed.
+pub(crate) fn end_line(
+    ring: SlotRing,
+    callers: Vec<Caller>,
+    player: PlayerCaller,
+    blank: Blank,
+) -> LineEnd
+    requires callers { AreNumbered ring callers.items }
+    requires many { (length callers.items ≡ ring.shape.filers) × (length callers.items ≤ 64) }
+    requires player { PlayerThere ring player }
+    requires blank { blank.ring ≡ ring }
+    ensures player { (result.player ≡ player.end) × (result.played ≡ player.tally) }
+    ensures filers { result.filers ≡ map told callers.items }
+    ensures lists { AreLists ring.shape.filers callers.items player result.left.lists }
+    ensures history { Ended ring.shape result.left.lists result.left.frames }
+{
+    let filers = FilerEnds::of(callers.as_slice());
+    let end = player.end;
+    let played = player.tally;
+    let left = leave_and_close::<Brand>(ring, callers, player, blank, ledger::Blank::new(1));
+    LineEnd {
+        player: end,
+        played,
+        filers,
+        left,
+    }
 }
