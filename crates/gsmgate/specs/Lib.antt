@@ -18,3 +18,4 @@ pub mod Verify
 pub mod VerifyRuns
 pub mod Make
 pub mod Commands
+pub mod Serve

@@ -16,6 +16,7 @@ mod playback;
 mod refusals;
 mod render;
 mod run;
+mod serve;
 mod simulate;
 mod status;
 mod stop;
@@ -23,9 +24,10 @@ mod verify;
 
 use crate::offline::run_offline;
 use crate::places::{Places, addresses};
+use crate::serve::run_serve;
 use crate::status::Status;
 use gate_base::OutOfMemory;
-use gate_os::{OsSink, OsSource};
+use gate_os::{OsClock, OsSink, OsSource, UdpLink};
 use std::alloc::AllocError;
 use std::env;
 use std::process::ExitCode;
@@ -60,6 +62,59 @@ fn run_files(
     Ok(run_offline(rt.alloc(), words, &mut inputs, &mut output, &mut notes))
 }
 
+// The address of any port of this machine that can reach the other one.
+fn any_port(there: &str) -> &'static str {
+    if there.starts_with("[") {
+        "[::]:0"
+    } else {
+        "0.0.0.0:0"
+    }
+}
+
+// The journals of a line, the player's first.
+fn create_all<'a>(
+    rt: &'a HostRuntime,
+    paths: &[String],
+) -> Result<Vec<OsSink<'a, HostRuntime>>, OutOfMemory> {
+    let mut sinks = Vec::new(rt.alloc());
+    for path in paths {
+        sinks.push(OsSink::create(rt, rt.alloc(), path.as_str())?)?;
+    }
+    Ok(sinks)
+}
+
+// Runs the gateway over the sockets and the files that the words name.
+fn run_gateway(
+    rt: &HostRuntime,
+    words: &Vec<String>,
+    places: &Places,
+) -> Result<Status, OutOfMemory> {
+    let mut links = Vec::new(rt.alloc());
+    for here in &places.links {
+        links.push(UdpLink::bind(rt, rt.alloc(), here.as_str(), "", places.ticks)?)?;
+    }
+    let there = places.reply.as_str();
+    let mut reply = UdpLink::bind(rt, rt.alloc(), any_port(there), there, places.ticks)?;
+    let mut microphone = OsSource::open(rt, rt.alloc(), places.microphone.as_str())?;
+    let mut speaker = OsSink::create(rt, rt.alloc(), places.speaker.as_str())?;
+    let mut journals = create_all(rt, &places.journals)?;
+    let mut notes = OsSink::standard(rt);
+    let mut clock = OsClock::new(rt, places.ticks);
+    let served = run_serve(
+        rt,
+        rt.alloc(),
+        words,
+        &mut links,
+        &mut reply,
+        &mut microphone,
+        &mut speaker,
+        &mut journals,
+        &mut notes,
+        &mut clock,
+    );
+    Ok(served.status)
+}
+
 // Words that are no line: nothing is opened, and the notes say so.
 fn refuse(rt: &HostRuntime, words: &Vec<String>) -> Status {
     let mut inputs: Vec<OsSource<HostRuntime>> = Vec::new(rt.alloc());
@@ -73,10 +128,17 @@ fn main(rt: HostRuntime) -> ExitCode {
         return code_of(Status::OutOfMemory);
     };
     match addresses(rt.alloc(), &words) {
-        Ok(places) => match run_files(&rt, &words, &places) {
-            Ok(status) => code_of(status),
-            Err(OutOfMemory) => code_of(Status::OutOfMemory),
-        },
+        Ok(places) => {
+            let ran = if places.serve {
+                run_gateway(&rt, &words, &places)
+            } else {
+                run_files(&rt, &words, &places)
+            };
+            match ran {
+                Ok(status) => code_of(status),
+                Err(OutOfMemory) => code_of(Status::OutOfMemory),
+            }
+        }
         Err(Status::Usage) => code_of(refuse(&rt, &words)),
         Err(status) => code_of(status),
     }
@@ -85,6 +147,10 @@ fn main(rt: HostRuntime) -> ExitCode {
 #[cfg(test)]
 mod packet_tests;
 #[cfg(test)]
+mod serve_tests;
+#[cfg(test)]
 mod speech_tests;
 #[cfg(test)]
 mod tests;
+#[cfg(test)]
+mod thread_tests;

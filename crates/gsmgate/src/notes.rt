@@ -110,6 +110,19 @@ fn put_others(line: &mut Line, tally: &Tally)
     line.counted(" empty ", tally.empty);
 }
 
+// Writes what datagrams and their frames came to, and gives the line.
+fn give_counts<E: Sink>(mut line: Line, tally: &Tally, notes: &mut E) -> Result<(), Failed>
+    requires { length line ≤ 70 }
+    ensures given { Gives (E.given notes.old) (E.given notes.new) result (tally_line line tally.now) }
+    ensures cause { HasCause (E.faults notes.old) (E.faults notes.new) result }
+    ensures kin { E.kin notes.old notes.new }
+{
+    line.counted(" datagrams ", tally.datagrams);
+    put_frames(&mut line, tally);
+    put_others(&mut line, tally);
+    line.give(notes)
+}
+
 /// Notes what the datagrams and the frames of all callers came to.
 pub fn give_tally<E: Sink>(tally: &Tally, notes: &mut E) -> Result<(), Failed>
     ensures given { Gives (E.given notes.old) (E.given notes.new) result (tally_line (codes "all") tally.now) }
@@ -118,10 +131,18 @@ pub fn give_tally<E: Sink>(tally: &Tally, notes: &mut E) -> Result<(), Failed>
 {
     let mut line = Line::new();
     line.words("all");
-    line.counted(" datagrams ", tally.datagrams);
-    put_frames(&mut line, tally);
-    put_others(&mut line, tally);
-    line.give(notes)
+    give_counts(line, tally, notes)
+}
+
+/// Notes what the datagrams and the frames of one link came to, by its number.
+pub fn give_link<E: Sink>(link: u64, tally: &Tally, notes: &mut E) -> Result<(), Failed>
+    ensures given { Gives (E.given notes.old) (E.given notes.new) result (tally_line (counted (codes "link ") link) tally.now) }
+    ensures cause { HasCause (E.faults notes.old) (E.faults notes.new) result }
+    ensures kin { E.kin notes.old notes.new }
+{
+    let mut line = Line::new();
+    line.counted("link ", link);
+    give_counts(line, tally, notes)
 }
 
 /// Notes the summary of a run: what the player's beats came to, and all datagrams and frames.

@@ -7,6 +7,7 @@ ghost use Rattle.gate_io.specs.Flow.{Gives};
 ghost use Rattle.command_line.specs.Lines.{ServeSaid, fits_serve, line_of};
 ghost use Rattle.command_line.specs.declared.line.Line.TheVariants.{Serve};
 ghost use Rattle.line_run.specs.Line.{LineRan};
+ghost use Rattle.line_run.specs.Seen.{clock_seen, link_seen, player_seen, sink_seen, source_seen};
 ghost use Rattle.gsmgate.specs.Exchange.{GainedUnlessFault, SomeRose};
 ghost use Rattle.gsmgate.specs.Notes.{usage_line};
 ghost use Rattle.gsmgate.specs.Serve.{StatusFollows, fault_of_ends, filer_fault, line_options, lowest_fault, player_fault, serve_lines};
@@ -105,7 +106,7 @@ fn give_end<E: Sink>(end: &LineEnd, notes: &mut E) -> Result<(), Failed>
 {
     give_plays(&end.played, notes)?;
     'filers: for k in 0..end.filers.len() {
-        match give_link(k as u8, &end.filers.get(k).1, notes) {
+        match give_link(k as u64, &end.filers.get(k).1, notes) {
             Ok(()) => {}
             Err(Failed) => return Err(Failed),
         }
@@ -115,6 +116,81 @@ fn give_end<E: Sink>(end: &LineEnd, notes: &mut E) -> Result<(), Failed>
 
 // The status of a line that has run, whose notes are given here.
 fn finish<E: Sink>(end: &LineEnd, notes: &mut E) -> Status
+    ensures status { StatusFollows (fault_of_ends end.now.player end.now.filers) result (Appends (E.given notes.old) (E.given notes.new) (serve_lines end.now.played end.now.filers)) }
+    ensures noted { GainedUnlessFault (E.given notes.old) (E.given notes.new) (E.faults notes.old) (E.faults notes.new) (serve_lines end.now.played end.now.filers) }
+    ensures cause { fault_of_ends end.now.player end.now.filers ≡ None → result ≡ Status.WriteFault → Rose (E.faults notes.old) (E.faults notes.new) }
+    ensures later { E.faults notes.old ≤ E.faults notes.new }
+    ensures kin { E.kin notes.old notes.new }
+{
+    let given = give_end(end, notes);
+    match fault_of(end) {
+        Some(fault) => fault,
+        None => match given {
+            Ok(()) => Status::Done,
+            Err(Failed) => Status::WriteFault,
+        },
+    }
+}
+
+// The line of these words, for so many links and journals.
+fn line_for(alloc: Global, words: &[String], links: usize, journals: usize) -> Result<line_run::Line, Status>
+    ensures opened { IfOk result (λ l. (said : ServeSaid) × (line_of (map string_bytes words.now) ≡ Some (Serve said)) × (l.filers ≡ length said.listen) × (l.options ≡ line_options said.options)
+        × (length said.listen ≡ links) × (journals ≡ 1 + links)) }
+    ensures usage { IsErrOf result Status.Usage → fits_serve (map string_bytes words.now) links journals ≡ false }
+    ensures fits { IfOk result (λ l. fits_serve (map string_bytes words.now) links journals ≡ true) }
+    ensures only { IfErr result (λ s. (s ≡ Status.Usage) ⊎ (s ≡ Status.OutOfMemory)) }
+{
+    let said = match read_line(alloc, words) {
+        Ok(Line::Serve(said)) => said,
+        Ok(Line::Files(_)) => return Err(Status::Usage),
+        Err(Refusal::Usage) => return Err(Status::Usage),
+        Err(Refusal::OutOfMemory) => return Err(Status::OutOfMemory),
+    };
+    if said.listen.len() != links || journals != links + 1 {
+        return Err(Status::Usage);
+    }
+    match open_line(alloc, links as u32, &options_of(&said.options)) {
+        Ok(line) => Ok(line),
+        Err(OutOfMemory) => Err(Status::OutOfMemory),
+    }
+}
+
+/// Does the command `serve` of the words over the links, one for each address that they listen on, and the journals, the
+/// player's first. All callers run at once, each on a thread of its own, to their ends; it waits as long as they do.
+///
+/// `Usage` comes exactly where the words are no line of serve or the lists have other lengths than they say, and then, as with
+/// `OutOfMemory`, nothing is taken, and nothing given but the line `usage` to the notes.
+pub fn run_serve<
+    R: Threads + Wait + Sync,
+    P: Link + Send,
+    I: Source + Send,
+    O: Sink + Send,
+    J: Sink + Send,
+    E: Sink,
+    C: TickClock + Send,
+>(
+    rt: &R,
+    alloc: Global,
+    words: &Vec<String>,
+    links: &mut Vec<P>,
+    reply: &mut P,
+    microphone: &mut I,
+    speaker: &mut O,
+    journals: &mut Vec<J>,
+    notes: &mut E,
+    clock: &mut C,
+) -> Served
+    ensures usage { result.status ≡ Status.Usage → fits_serve (map string_bytes words.now.items) (length links.old.items) (length journals.old.items) ≡ false }
+    ensures usage_only { fits_serve (map string_bytes words.now.items) (length links.old.items) (length journals.old.items) ≡ false → (result.status ≡ Status.Usage) ⊎ (result.status ≡ Status.OutOfMemory) }
+    ensures no_end { (result.end ≡ None) ↔ ((result.status ≡ Status.Usage) ⊎ (result.status ≡ Status.OutOfMemory)) }
+    ensures untouched { result.end ≡ None → (links.new ≡ links.old) × (reply.new ≡ reply.old) × (microphone.new ≡ microphone.old) × (speaker.new ≡ speaker.old) × (journals.new ≡ journals.old) × (clock.new ≡ clock.old) }
+    ensures refused { result.status ≡ Status.Usage → GainedUnlessFault (E.given notes.old) (E.given notes.new) (E.faults notes.old) (E.faults notes.new) usage_line }
+    ensures starved { result.status ≡ Status.OutOfMemory → notes.new ≡ notes.old }
+    ensures ran { IfSome result.end (λ e. (said : ServeSaid) × (line_of (map string_bytes words.now.items) ≡ Some (Serve said))
+        × LineRan (record { filers = length said.listen; options = line_options said.options }) (link_seen P.log P.ended P.faults) (sink_seen J.given J.faults) links.old.items journals.old.items links.new.items journals.new.items
+        (player_seen (clock_seen C.ticks C.ended clock.old) (sink_seen O.given O.faults speaker.old) (source_seen I.left I.faults microphone.old) (link_seen P.log P.ended P.faults reply.old))
+        (player_seen (clock_seen C.ticks C.ended clock.new) (sink_seen O.given O.faults speaker.new) (source_seen I.left I.faults microphone.new) (link_seen P.log P.ended P.faults reply.new))
+        e.player e.played e.filers e.left) }
     ensures status { StatusFollows (fault_of_ends end.now.player end.now.filers) result (Appends (E.given notes.old) (E.given notes.new) (serve_lines end.now.played end.now.filers)) }
     ensures noted { GainedUnlessFault (E.given notes.old) (E.given notes.new) (E.faults notes.old) (E.faults notes.new) (serve_lines end.now.played end.now.filers) }
     ensures cause { fault_of_ends end.now.player end.now.filers ≡ None → result ≡ Status.WriteFault → Rose (E.faults notes.old) (E.faults notes.new) }
