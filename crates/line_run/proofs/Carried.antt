@@ -65,5 +65,5 @@ ran_over before now k k2 log log2 given given2 pass side side2 result end first 
     record {
       same = (same.0, same.1);
       ran = subst (λ (l : List Call). FilerRan Grows before now (standing k l log given) (standing k2 result.list log2 given2) end) none
-      (ran_so Grown Grows (λ (x : PassView). x.list) (λ x y call h. h.2) before now a b end h);
+          (ran_so Grown Grows (λ (x : PassView). x.list) (λ x y call h. h.2) before now a b end h);
     }

@@ -45,8 +45,8 @@ one_more ring cs xs c before mid after e all room one h =
       long = h.long ∙ (ap length p.2 ∙ length-set before n (Some x.list));
       has = λ i d y at is. go n refl x p.2 p.1 (let a : ℕ = length cs in let m : a ≡ n + 1 = many in let l : a ≤ length before = room in omega arith) i d y (ap (λ (l : List Caller). get_elem? l i) (sym e) ∙ at) is (cut n i);
       others = λ i low.
-      let a : ℕ = length cs in let m : a ≡ n + 1 = many in let l : a ≤ i = low in
-      h.others i (omega arith) ∙ (ap (λ (l : Lists). slice_get l i) p.2 ∙ else_as_before before n i (Some x.list) (λ same. absurd (omega arith)));
+          let a : ℕ = length cs in let m : a ≡ n + 1 = many in let l : a ≤ i = low in
+          h.others i (omega arith) ∙ (ap (λ (l : Lists). slice_get l i) p.2 ∙ else_as_before before n i (Some x.list) (λ same. absurd (omega arith)));
     }
   where
     go : (n : ℕ) → length xs ≡ n → (x : PassView) → mid ≡ set before n (Some x.list) → c.pass ≡ Some x → n < length before → (i : ℕ) (d : Caller) (y : PassView) → get_elem? (xs ++ c ∷ []) i ≡ some d → d.pass ≡ Some y → (i < n) ⊎ ((j : ℕ) × (i ≡ n + j)) → slice_get after i ≡ Some (Some y.list)

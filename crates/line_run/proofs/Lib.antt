@@ -1,8 +1,10 @@
 pub mod CameSo
 pub mod Carried
 pub mod Closing
+pub mod Completed
 pub mod Enlisting
 pub mod Halves
 pub mod Leaving
+pub mod OneHistory
 pub mod Places
 pub mod Sounded

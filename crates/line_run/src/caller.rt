@@ -45,8 +45,15 @@ pub(crate) fn run_one<R: Wait, P: Link, J: Sink>(
         unreachable!()
     };
     let mut filer = plan.filer();
-    let (pass, end) =
-        run_over::<Brand, R, P, J>(rt, ring, pass, Blank::new(1), &mut filer, link, journal);
+    let (pass, end) = run_over::<Brand, R, P, J>(
+        rt,
+        ring,
+        pass,
+        Blank::new(1),
+        &mut filer,
+        link,
+        journal,
+    );
     caller.pass = Some(pass);
     caller.end = end;
     caller.tally = filer.tally();

@@ -32,7 +32,14 @@ pub(crate) fn fan_out<R: Threads + Wait + Sync, P: Link + Send, J: Sink + Send>(
         return;
     }
     if count == 1 {
-        run_one(rt, plan, ring, &mut callers[0], &mut links[0], &mut journals[0]);
+        run_one(
+            rt,
+            plan,
+            ring,
+            &mut callers[0],
+            &mut links[0],
+            &mut journals[0],
+        );
         return;
     }
     let half = count / 2;

@@ -92,11 +92,7 @@ fn enlist_all<L: Ledger>(
 ///
 /// # Errors
 /// `OutOfMemory`.
-pub fn open_line(
-    alloc: Global,
-    filers: u32,
-    options: &LineOptions,
-) -> Result<Line, OutOfMemory>
+pub fn open_line(alloc: Global, filers: u32, options: &LineOptions) -> Result<Line, OutOfMemory>
     requires filers { (1 ≤ filers) × (filers ≤ 64) }
     requires options { AreOptions options.now }
     ensures { IfOk result (λ l. (l.filers ≡ filers) × (l.options ≡ options.now)) }

@@ -56,7 +56,9 @@ fn all_at_once<
     join_mut(
         rt,
         &mut filers,
-        &mut || run_playing(plan, ring, player, clock, speaker, journal, microphone, reply),
+        &mut || run_playing(
+            plan, ring, player, clock, speaker, journal, microphone, reply,
+        ),
     );
 }
 

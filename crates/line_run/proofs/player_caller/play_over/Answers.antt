@@ -8,8 +8,8 @@ returns-clause-pass g c =
     let clock = clock_seen g.C.TickClock.ticks g.C.TickClock.ended in let out = sink_seen g.O.Sink.given g.O.Sink.faults in
     let mic = source_seen g.I.Source.left g.I.Source.faults in let link = link_seen g.P.Link.log g.P.Link.ended g.P.Link.faults in let sink = sink_seen g.J.Sink.given g.J.Sink.faults in
     (played_over o (player_seen (clock k.clock.now) (out k.speaker.now) (mic k.microphone.now) (link k.reply.now)) (player_seen (clock new.clock) (out new.speaker) (mic new.microphone) (link new.reply))
-        (sink k.journal.now) (sink new.journal) k.pass c.new-side.result new.side c.into_pass.result c.player-player.result new.self _ _ c.run-end.result c.tally.result
-        c.new-side.ensures c.into_pass.ensures c.requires.list c.player-player.ensures (e.told o.seed o.own o.sequence o.stamp o.ticks c.player-player.ensures) e.ticks e.within e.ended c.tally.ensures e.open).same
+    (sink k.journal.now) (sink new.journal) k.pass c.new-side.result new.side c.into_pass.result c.player-player.result new.self _ _ c.run-end.result c.tally.result
+    c.new-side.ensures c.into_pass.ensures c.requires.list c.player-player.ensures (e.told o.seed o.own o.sequence o.stamp o.ticks c.player-player.ensures) e.ticks e.within e.ended c.tally.ensures e.open).same
 
 pub returns-clause-played : goal.returns-clause-played
 returns-clause-played g c =
@@ -17,5 +17,5 @@ returns-clause-played g c =
     let clock = clock_seen g.C.TickClock.ticks g.C.TickClock.ended in let out = sink_seen g.O.Sink.given g.O.Sink.faults in
     let mic = source_seen g.I.Source.left g.I.Source.faults in let link = link_seen g.P.Link.log g.P.Link.ended g.P.Link.faults in let sink = sink_seen g.J.Sink.given g.J.Sink.faults in
     (played_over o (player_seen (clock k.clock.now) (out k.speaker.now) (mic k.microphone.now) (link k.reply.now)) (player_seen (clock new.clock) (out new.speaker) (mic new.microphone) (link new.reply))
-        (sink k.journal.now) (sink new.journal) k.pass c.new-side.result new.side c.into_pass.result c.player-player.result new.self _ _ c.run-end.result c.tally.result
-        c.new-side.ensures c.into_pass.ensures c.requires.list c.player-player.ensures (e.told o.seed o.own o.sequence o.stamp o.ticks c.player-player.ensures) e.ticks e.within e.ended c.tally.ensures e.open).played
+    (sink k.journal.now) (sink new.journal) k.pass c.new-side.result new.side c.into_pass.result c.player-player.result new.self _ _ c.run-end.result c.tally.result
+    c.new-side.ensures c.into_pass.ensures c.requires.list c.player-player.ensures (e.told o.seed o.own o.sequence o.stamp o.ticks c.player-player.ensures) e.ticks e.within e.ended c.tally.ensures e.open).played

@@ -16,15 +16,15 @@ returns-clause-ran g c =
       of_ring = e.pass.0 ∙ (ap (λ (x : PassView). x.ring) same ∙ r.of_ring);
       who = e.pass.1 ∙ (ap (λ (x : PassView). x.who) same ∙ r.who);
       came = sounded l.filers l.options (player_seen (clock k.clock.now) (out k.speaker.now) (mic k.microphone.now) (link k.reply.now)) (player_seen (clock new.clock) (out new.speaker) (mic new.microphone) (link new.reply))
-      (sink k.journal.now) (sink head.new.sink) (sink new.journal) head.result c.head.result ran.result.0.list ran.result.1 ran.result.2
-      head.ensures.given head.ensures.cause (search rules) c.head.ensures e.played (record {
-        speaker_later = e.speaker_later;
-        journal_later = e.journal_later;
-        mic_later = e.mic_later;
-        reply_later = e.reply_later;
-        speaker_fault = e.speaker_fault;
-        journal_fault = e.journal_fault;
-        mic_fault = e.mic_fault;
-        reply_fault = e.reply_fault;
-      });
+          (sink k.journal.now) (sink head.new.sink) (sink new.journal) head.result c.head.result ran.result.0.list ran.result.1 ran.result.2
+          head.ensures.given head.ensures.cause (search rules) c.head.ensures e.played (record {
+            speaker_later = e.speaker_later;
+            journal_later = e.journal_later;
+            mic_later = e.mic_later;
+            reply_later = e.reply_later;
+            speaker_fault = e.speaker_fault;
+            journal_fault = e.journal_fault;
+            mic_fault = e.mic_fault;
+            reply_fault = e.reply_fault;
+          });
     }
