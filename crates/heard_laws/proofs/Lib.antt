@@ -1,2 +1,5 @@
 pub mod OneSpeech
 pub mod OneHeard
+pub mod OneJournal
+pub mod Telling
+pub mod GivenBack

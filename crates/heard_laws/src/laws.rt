@@ -1,4 +1,5 @@
 // Laws of what is heard.
+ghost use Rattle.heard_laws.specs.Rendered.{JournalRenders};
 ghost use Rattle.heard_laws.specs.Sameness.{HeardIsOne, SpeechIsOne};
 
 /// Decoded speech of a list of frames is one.
@@ -9,4 +10,10 @@ pub fn speech_is_one()
 /// What is heard of a list of items is one.
 pub fn heard_is_one()
     ensures { HeardIsOne }
+{}
+
+/// A player's journal of the calls of any beats is whole, and rendering it to its end gives the very samples that are
+/// heard of the calls, which are those that a speaker gets.
+pub fn journal_renders()
+    ensures { JournalRenders }
 {}

@@ -1,0 +1,35 @@
+-- A player's journal gives back what its speaker got.
+use Rattle.std.specs.Prelude.{ℕ, ◌≡◌, ◌≤◌, ℤ, List, length, Option, Some}
+use Rattle.std.specs.List.{AllByRecursion}
+use Rattle.std.specs.Io.KnownBytes.{Appends}
+use Rattle.play_machine.specs.declared.call.Call.{Call}
+use Rattle.recorder.specs.Files.{event_limit}
+use Rattle.recorder.specs.Heads.{Heading, IsHeading}
+use Rattle.recorder.specs.Journals.{IsPlayerJournal, PlayerRecord}
+use Rattle.recorder.specs.Play.{play_text}
+use Rattle.recorder.specs.Tallies.{play_tally}
+use Rattle.substitution.specs.Heard.{IsHeard, sample_octets}
+use Rattle.replay_check.specs.declared.rendering.RenderEnd.{RenderEnd}
+use Rattle.replay_check.specs.declared.rendering.RenderEnd.TheVariants.{Done, Refused, ReadFault, WriteFault}
+use Rattle.replay_check.specs.Render.{Renders, items_of}
+use Rattle.player.specs.Beats.{CanBeTold}
+use Rattle.player.specs.Whole.{AreBeats, items_in}
+
+-- the output gained the octets of the samples, and the tally is that of the calls' items; a journal is never refused
+abbrev pub RendersTo : List Call → List ℤ → RenderEnd → Option (List ℕ) → Option (List ℕ) → Type 0
+RendersTo calls samples (Done tally) before now = Appends before now (sample_octets samples) × (tally ≡ play_tally (items_in calls))
+RendersTo calls samples (Refused f) before now = ⊥
+RendersTo calls samples ReadFault before now = Unit {0}
+RendersTo calls samples WriteFault before now = Unit {0}
+
+-- The journal of the calls, behind this heading, is a player's journal that plays their items, and however it is rendered the output gains these samples.
+pub record GivesBack (seed : List ℕ) (h : Heading) (calls : List Call) (samples : List ℤ) : Type 0 where
+  pub says : PlayerRecord
+  pub journal : IsPlayerJournal (play_text h calls) says
+  pub plays : items_of says.events ≡ items_in calls
+  pub rendered : (end : RenderEnd) (before now : Option (List ℕ)) → Renders seed end (Some (play_text h calls)) before now → RendersTo calls samples end before now
+
+-- The journal of the calls of any beats gives back what is heard of them: a speaker gets the octets of these samples, and so does what the journal is rendered to.
+abbrev pub JournalRenders : Type 0
+JournalRenders = (seed : List ℕ) (h : Heading) (made : ℕ) (calls : List Call) (samples : List ℤ) → IsHeading h → AreBeats made calls → AllByRecursion CanBeTold calls → length calls ≤ event_limit
+    → IsHeard seed (items_in calls) samples → GivesBack seed h calls samples
