@@ -3,3 +3,4 @@ pub mod OneHeard
 pub mod OneJournal
 pub mod Telling
 pub mod GivenBack
+pub mod RunGivesBack

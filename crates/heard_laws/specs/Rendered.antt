@@ -13,7 +13,8 @@ use Rattle.replay_check.specs.declared.rendering.RenderEnd.{RenderEnd}
 use Rattle.replay_check.specs.declared.rendering.RenderEnd.TheVariants.{Done, Refused, ReadFault, WriteFault}
 use Rattle.replay_check.specs.Render.{Renders, items_of}
 use Rattle.player.specs.Beats.{CanBeTold}
-use Rattle.player.specs.Whole.{AreBeats, items_in}
+use Rattle.player.specs.Whole.{AreBeats, PlayerGave, Ports, items_in}
+use Rattle.player.specs.declared.run.PlayerEnd.TheVariants.{Ended}
 
 -- the output gained the octets of the samples, and the tally is that of the calls' items; a journal is never refused
 abbrev pub RendersTo : List Call → List ℤ → RenderEnd → Option (List ℕ) → Option (List ℕ) → Type 0
@@ -33,3 +34,9 @@ pub record GivesBack (seed : List ℕ) (h : Heading) (calls : List Call) (sample
 abbrev pub JournalRenders : Type 0
 JournalRenders = (seed : List ℕ) (h : Heading) (made : ℕ) (calls : List Call) (samples : List ℤ) → IsHeading h → AreBeats made calls → AllByRecursion CanBeTold calls → length calls ≤ event_limit
     → IsHeard seed (items_in calls) samples → GivesBack seed h calls samples
+
+-- A player's run that came to its end gave its speaker the octets of these samples, and its journal, behind any heading, gives them back.
+abbrev pub RunRenders : Type 0
+RunRenders = (seed : List ℕ) (own sequence stamp before now made : ℕ) (calls : List Call) (a b : Ports) (h : Heading) → IsHeading h → made ≤ 16000000
+    → PlayerGave seed own sequence stamp before now made calls a b Ended
+    → (samples : List ℤ) × Appends a.heard b.heard (sample_octets samples) × GivesBack seed h calls samples

@@ -1,5 +1,5 @@
 // Laws of what is heard.
-ghost use Rattle.heard_laws.specs.Rendered.{JournalRenders};
+ghost use Rattle.heard_laws.specs.Rendered.{JournalRenders, RunRenders};
 ghost use Rattle.heard_laws.specs.Sameness.{HeardIsOne, SpeechIsOne};
 
 /// Decoded speech of a list of frames is one.
@@ -16,4 +16,9 @@ pub fn heard_is_one()
 /// heard of the calls, which are those that a speaker gets.
 pub fn journal_renders()
     ensures { JournalRenders }
+{}
+
+/// The journal of a player's run that came to its end renders to the very octets that its speaker got.
+pub fn run_renders()
+    ensures { RunRenders }
 {}

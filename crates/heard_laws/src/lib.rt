@@ -3,4 +3,4 @@
 
 mod laws;
 
-pub use laws::{heard_is_one, journal_renders, speech_is_one};
+pub use laws::{heard_is_one, journal_renders, run_renders, speech_is_one};

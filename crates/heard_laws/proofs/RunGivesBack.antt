@@ -1,0 +1,24 @@
+-- A player's run that came to its end has a journal that gives back what its speaker got.
+use Rattle.std.proofs.Common.{◌≡◌, ◌⊎◌, ℕ, ◌+◌, ◌<◌, ◌≤◌, List, [], ◌∷◌, ◌++◌, length, map, replicate, Option, Some, None, sym, ap, subst, ◌∙◌, inl, inr, arith}
+use Rattle.std.specs.Prelude.{ℤ}
+use Rattle.frame_codec.specs.declared.item.Item.{Item}
+use Rattle.play_machine.specs.declared.call.Call.{Call}
+use Rattle.play_machine.specs.declared.call.Call.TheVariants.{PeekCall, TickCall}
+use Rattle.recorder.specs.Files.{event_limit}
+use Rattle.player.specs.Whole.{AreBeats}
+use Rattle.heard_laws.specs.Rendered.{RunRenders}
+use Rattle.heard_laws.proofs.GivenBack.{journal_gives_back}
+
+long : (idle base : ℕ) (items : List Item) → length (replicate idle (PeekCall None) ++ PeekCall (Some base) ∷ map TickCall items) ≡ idle + (1 + length items)
+long idle base items = simp
+
+-- the calls of so many beats are one more at most
+pub beats_are_few : (made : ℕ) (calls : List Call) → AreBeats made calls → length calls ≤ made + 1
+beats_are_few made calls beats = elim beats [
+  | inl none ↦ let l : length calls ≡ made = rw none simp in omega (arith, l)
+  | inr some ↦ let l : length calls ≡ some.0 + (1 + length some.2.0) = rw some.2.2.2.2 (long some.0 some.1 some.2.0) in omega (arith, l, some.2.2.2.1)
+]
+
+pub run_gives_back : RunRenders
+run_gives_back seed own sequence stamp before now made calls a b h head most gave =
+    (gave.samples, gave.speaker, journal_gives_back seed h made calls gave.samples head gave.beats gave.told (omega (arith, most, beats_are_few made calls gave.beats)) gave.heard)
