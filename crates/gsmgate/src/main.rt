@@ -88,3 +88,5 @@ mod packet_tests;
 mod speech_tests;
 #[cfg(test)]
 mod tests;
+#[cfg(test)]
+mod verify_tests;
