@@ -1,19 +1,15 @@
 -- From the loop over the frames to the whole command.
-use Rattle.std.proofs.Common.{◌≡◌, ℕ, ◌≤◌, List, [], length, take, Option, Some, None, Ok, Err, refl, sym, ap, subst, ◌∙◌, append-nil, arith}
+use Rattle.std.proofs.Common.{◌≡◌, ℕ, ◌≤◌, List, [], length, take, Option, Some, None, Ok, sym, subst, arith}
 use Rattle.std.specs.Prelude.{ℤ, IfSome}
 use Rattle.std.specs.List.{AllByRecursion}
-use Rattle.std.specs.Io.KnownBytes.{Appends}
-use Rattle.std.proofs.KnownBytes.{Appends-nil}
 use Rattle.frame_codec.specs.Octets.{IsFrame}
 use Rattle.gate_io.specs.Flow.{AppendsPart}
 use Rattle.gate_io.specs.FlowLaws.{AppendsPart-whole}
-use Rattle.recorder.specs.declared.fault.RecordFault.{RecordFault}
-use Rattle.gsmgate.specs.declared.status.Status.TheVariants.{Done, Input, ReadFault, WriteFault}
-use Rattle.gsmgate.specs.declared.stop.Stop.TheVariants as stop
+use Rattle.gsmgate.specs.declared.status.Status.TheVariants.{Input, WriteFault}
 use Rattle.gsmgate.specs.Decode.{BeginsWith, Ends, coded, frame_fault, frame_limit}
 use Rattle.gsmgate.specs.DecodeRuns.{HasDecoded}
-use Rattle.gsmgate.specs.Exchange.{Exchange, GainedUnlessFault}
-use Rattle.gsmgate.specs.Notes.{fault_line, frames_line}
+use Rattle.gsmgate.specs.Exchange.{Exchange}
+use Rattle.gsmgate.specs.Notes.{frames_line}
 use Rattle.substitution.specs.Heard.{sample_octets}
 use Rattle.gsmgate.proofs.Decoding.{no-frame-fault}
 

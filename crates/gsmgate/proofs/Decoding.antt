@@ -1,7 +1,7 @@
 -- What the loop over frames keeps.
-use Rattle.std.proofs.Common.{◌≡◌, ℕ, ◌+◌, ◌*◌, ◌≤◌, ◌<◌, List, [], ◌∷◌, ◌++◌, length, take, drop, Option, Some, None, Ok, Err, refl, sym, ap, subst, ◌∙◌, append_assoc, append-nil, length-append, arith}
+use Rattle.std.proofs.Common.{◌≡◌, ℕ, ◌+◌, ◌≤◌, ◌<◌, List, [], ◌∷◌, ◌++◌, length, take, drop, Option, Some, None, Err, sym, ap, subst, ◌∙◌, append_assoc, append-nil, length-append, arith}
 use Rattle.std.specs.Prelude.{ℤ, IfSome}
-use Rattle.std.specs.List.{flat_map, AllByRecursion}
+use Rattle.std.specs.List.{AllByRecursion}
 use Rattle.std.specs.Int.{w16, cast_unsigned}
 use Rattle.byteorder.specs.Endian.{little_bytes}
 use Rattle.std.specs.Io.KnownBytes.{Appends, Consumes, IsAtEnd}
@@ -18,7 +18,7 @@ use Rattle.gsmgate.specs.Decode.{AreSpelled, BeginsWith, IsDecoded, coded, frame
 use Rattle.gsmgate.specs.DecodeRuns.{HasDecoded}
 use Rattle.gsmgate.proofs.FrameFaults.{frame-clear}
 use Rattle.substitution.specs.Heard.{sample_octets}
-use Rattle.gsmgate.specs.declared.stop.Stop.TheVariants.{Refused, WriteFault}
+use Rattle.gsmgate.specs.declared.stop.Stop.TheVariants.{WriteFault}
 
 -- these frames were read and decoded
 pub record Decoding (count : ℕ) (decoder : Kept) (input left before now : Option (List ℕ)) (frames : List (List ℕ)) (fields : List Fields) (samples : List ℤ) : Type 0 where

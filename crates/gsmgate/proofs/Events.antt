@@ -1,5 +1,5 @@
 -- What one event comes to.
-use Rattle.std.proofs.Common.{◌≡◌, ℕ, ◌+◌, ◌≤◌, ◌<◌, ◌^◌, cond, eqb, Bool, true, false, List, [], ◌∷◌, ◌++◌, length, map, Option, Some, None, slice_get, slice_set, refl, sym, ap, subst, ◌∙◌, append-nil, inl, inr, arith}
+use Rattle.std.proofs.Common.{◌≡◌, ℕ, ◌<◌, ◌^◌, Bool, true, false, List, [], ◌∷◌, ◌++◌, length, Some, None, slice_get, slice_set, refl, sym, ap, subst, ◌∙◌, append-nil, inl, inr, arith}
 use Rattle.std.proofs.lemmas.Bool.{eq-eqb, ne_eqb}
 use Rattle.std.proofs.lemmas.List.{length-set}
 use Rattle.std.specs.List.{flat_map}
@@ -8,7 +8,6 @@ use Rattle.frame_codec.specs.declared.item.Item.TheVariants.{Idle}
 use Rattle.play_machine.specs.declared.reply.FileReply.{FileReply}
 use Rattle.play_machine.specs.declared.call.Call.{Call}
 use Rattle.play_machine.specs.declared.call.Call.TheVariants.{FileCall, PeekCall, TickCall}
-use Rattle.play_machine.specs.Machine.{Machine, item_of}
 use Rattle.play_machine.specs.Line.{Line, FilerSteps, Steps}
 use Rattle.play_machine.specs.History.{Chained, Entry, IsLegal, after_all, entry, calls, calls_of}
 use Rattle.recorder.specs.declared.events.ScriptEvent.TheVariants.{Tick, File, Datagram, Beat}
@@ -18,7 +17,7 @@ use Rattle.recorder.specs.declared.tally.Tally.{Tally}
 use Rattle.filer.specs.declared.outcome.Outcome.{Outcome}
 use Rattle.filer.specs.Takes as takes
 use Rattle.gsmgate.specs.Applies.{Applies, callers_of}
-use Rattle.gsmgate.specs.Calls.{Callers, Ended, IsBeat, IsTick, Turn, bare, has_ticked, made_by}
+use Rattle.gsmgate.specs.Calls.{Callers, Ended, IsBeat, IsTick, Turn, bare, made_by}
 use Rattle.gsmgate.specs.Counts.{run_tally}
 use Rattle.gsmgate.specs.declared.run.Run.{Run}
 use Rattle.gsmgate.proofs.Counting.{datagram-more, ended, reply-more}

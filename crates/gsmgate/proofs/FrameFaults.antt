@@ -1,7 +1,6 @@
 -- The fault that stands at a frame's place.
 use Rattle.std.proofs.Common.{◌≡◌, ℕ, ◌+◌, ◌*◌, ◌/◌, ◌<◌, List, [], ◌∷◌, length, slice_index, Some, None, refl, arith}
 use Rattle.std.proofs.lemmas.Bool.Decides.{nat_tests}
-use Rattle.frame_codec.specs.Octets.{IsFrame}
 use Rattle.recorder.specs.declared.fault.RecordFault.TheVariants.{Cut, Field}
 use Rattle.gsmgate.specs.Decode.{frame_fault, frame_limit}
 

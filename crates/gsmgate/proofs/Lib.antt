@@ -15,3 +15,4 @@ pub mod ReadJournals
 pub mod Refuted
 pub mod VerifyEnds
 pub mod OrderLines
+pub mod JournalNames

@@ -1,12 +1,10 @@
 -- Journals that are read one after the other.
-use Rattle.std.proofs.Common.{◌≡◌, ℕ, zero, suc, ◌+◌, ◌≤◌, ◌<◌, List, [], ◌∷◌, ◌++◌, length, map, take, drop, slice_get, slice_index, slice_set, get_or, Bool, true, false, Option, Some, None, Result, Ok, Err, refl, sym, ap, subst, ◌∙◌, add-one, inl, inr, arith}
-use Rattle.std.specs.Prelude.{IfSome, ◌==◌}
+use Rattle.std.proofs.Common.{◌≡◌, ℕ, zero, suc, ◌+◌, ◌≤◌, ◌<◌, List, [], ◌∷◌, ◌++◌, length, map, take, drop, slice_get, slice_index, slice_set, get_or, Bool, true, false, Option, Some, None, refl, sym, ap, subst, ◌∙◌, add-one, arith}
+use Rattle.std.specs.Prelude.{◌==◌}
 use Rattle.std.specs.Io.KnownBytes.{Consumes}
 use Rattle.std.proofs.lemmas.Bool.{eqb-true}
 use Rattle.gate_base.specs.Faults.{Rose}
 use Rattle.recorder.specs.declared.fault.RecordFault.{RecordFault}
-use Rattle.recorder.specs.declared.fault.RecordFault.TheVariants.{Field}
-use Rattle.recorder.specs.declared.fault.RecordEnd.{RecordEnd}
 use Rattle.recorder.specs.declared.fault.RecordEnd.TheVariants.{Fault, ReadFailed}
 use Rattle.recorder.specs.declared.refusal.JournalRefusal.{JournalRefusal}
 use Rattle.recorder.specs.declared.refusal.JournalRefusal.TheVariants as refusal

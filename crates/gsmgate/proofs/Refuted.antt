@@ -1,6 +1,6 @@
 -- Whole journals of one line have no fault.
 use Rattle.std.proofs.Common.{◌≡◌, ℕ, zero, suc, ◌+◌, ◌≤◌, ◌<◌, ◌^◌, List, [], ◌∷◌, ◌++◌, length, slice_get, Bool, true, false, Option, Some, None, refl, sym, ap, subst, ◌∙◌, append_assoc, inl, inr, arith}
-use Rattle.std.specs.Prelude.{IfSome, IsSome, ◌==◌}
+use Rattle.std.specs.Prelude.{IsSome, ◌==◌}
 use Rattle.std.specs.List.{AllByRecursion, flat_map}
 use Rattle.std.proofs.Math.Nat.{pow-le-pow_right}
 use Rattle.std.proofs.lemmas.Bool.{eq-eqb}
@@ -14,7 +14,7 @@ use Rattle.recorder.specs.Play.{play_event_text}
 use Rattle.recorder.specs.Heads.{Heading, IsHeading, filer_magic, head_text, play_magic}
 use Rattle.recorder.specs.Journals.{FilerRecord, FilersHaveNoFault, IsFilerJournal, IsPlayerJournal, PlayerRecord, PlayersHaveNoFault}
 use Rattle.replay_check.specs.Journals.{AreNumbered, AreOfOneLine}
-use Rattle.gsmgate.specs.Verify.{FilerHasFault, FilerIsFirst, HasFirstFault, PlayerHasFault, TellFilers, TellJournals, TellsFiler, TellsPlayer, filer_misfit, fitting, player_misfit}
+use Rattle.gsmgate.specs.Verify.{FilerHasFault, HasFirstFault, PlayerHasFault, TellFilers, TellJournals, TellsFiler, TellsPlayer, filer_misfit, fitting, player_misfit}
 
 -- ---- octets have one head
 

@@ -1,5 +1,5 @@
 -- What the loop over events keeps.
-use Rattle.std.proofs.Common.{◌≡◌, ℕ, ◌+◌, ◌≤◌, ◌<◌, ◌^◌, List, [], ◌∷◌, ◌++◌, length, replicate, Option, Some, None, Ok, Err, refl, sym, ap, subst, ◌∙◌, append_assoc, append-nil, length-append, arith}
+use Rattle.std.proofs.Common.{◌≡◌, ℕ, ◌+◌, ◌≤◌, ◌<◌, ◌^◌, List, [], ◌∷◌, ◌++◌, length, Option, Some, None, Ok, Err, refl, sym, ap, subst, ◌∙◌, append_assoc, append-nil, length-append, arith}
 use Rattle.std.specs.List.{flat_map, AllByRecursion}
 use Rattle.std.specs.Io.KnownBytes.{Appends, Consumes}
 use Rattle.std.specs.Prelude.{IfSome}
@@ -24,7 +24,7 @@ use Rattle.recorder.specs.Script.{EventFits, event_text, fault_at, script_text}
 use Rattle.recorder.specs.Play.{call_text}
 use Rattle.recorder.specs.Tallies.{call_items, call_replies, play_tally}
 use Rattle.gsmgate.specs.Applies.{Applies, callers_of}
-use Rattle.gsmgate.specs.Calls.{AreTurns, Callers, Ended, IsCallable, IsTurn, Turn, ends_of, history_of, new_filer, opening_callers}
+use Rattle.gsmgate.specs.Calls.{AreTurns, Callers, IsCallable, IsTurn, Turn, ends_of, history_of, new_filer, opening_callers}
 use Rattle.gsmgate.specs.Counts.{run_tally}
 use Rattle.gsmgate.specs.Notes.{run_lines, turn_lines}
 use Rattle.gsmgate.specs.Playing.{GoesOn}

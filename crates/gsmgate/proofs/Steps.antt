@@ -4,7 +4,6 @@ use Rattle.std.specs.List.{flat_map}
 use Rattle.play_machine.specs.declared.reply.FileReply.{FileReply}
 use Rattle.play_machine.specs.declared.reply.FileReply.TheVariants.{Accepted, Duplicate, Late, Beyond}
 use Rattle.play_machine.specs.declared.call.Call.{Call}
-use Rattle.play_machine.specs.declared.call.Call.TheVariants.{FileCall, SourceCall, BaseCall}
 use Rattle.play_machine.specs.Machine.{Machine, filed}
 use Rattle.play_machine.specs.History.{after_all}
 use Rattle.recorder.specs.Tallies.{call_replies}
@@ -17,7 +16,7 @@ use Rattle.filer.specs.declared.outcome.Asked.{Asked}
 use Rattle.filer.specs.declared.outcome.Outcome.{Outcome}
 use Rattle.filer.specs.declared.outcome.OutcomeEnd.{OutcomeEnd}
 use Rattle.filer.specs.declared.outcome.OutcomeEnd.TheVariants as end
-use Rattle.filer.specs.Takes.{HasAllFrames, IsTaken, Known, Replied, Step, admitted, asked, bare, base_calls, calls_of, file_calls, filed as filed_step, files_told, frames_from, frames_of, held_source, is_rtcp, judged, read_rtcp_so, read_so, replies_of, settled, source_calls, step}
+use Rattle.filer.specs.Takes.{HasAllFrames, IsTaken, Known, Replied, Step, admitted, asked, bare, base_calls, calls_of, file_calls, filed as filed_step, files_told, frames_from, frames_of, held_source, is_rtcp, read_rtcp_so, read_so, replies_of, settled, source_calls, step}
 use Rattle.gsmgate.specs.Calls.{made_by}
 use Rattle.gsmgate.specs.Notes.{history_lines, own_line, reply_line}
 use Rattle.gsmgate.specs.Outcomes.{filed_lines, outcome_lines}

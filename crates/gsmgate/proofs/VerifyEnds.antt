@@ -1,8 +1,7 @@
 -- From the journals to the whole command.
-use Rattle.std.proofs.Common.{◌≡◌, ℕ, List, [], length, Option, Some, refl, sym, ap, subst, ◌∙◌, inl, inr}
-use Rattle.std.specs.Prelude.{IsSome, ◌⊎◌, ◌^◌}
+use Rattle.std.proofs.Common.{◌≡◌, ℕ, List, length, Option, refl, sym, subst, inr}
+use Rattle.std.specs.Prelude.{◌^◌}
 use Rattle.std.specs.Io.KnownBytes.{Keeps}
-use Rattle.std.proofs.KnownBytes.{Keeps-refl}
 use Rattle.recorder.specs.Journals.{FilerRecord, FilersHaveNoFault, PlayerRecord, PlayersHaveNoFault}
 use Rattle.replay_check.specs.declared.verdict.Verdict.{Verdict}
 use Rattle.replay_check.specs.Journals.{AreOfOneLine, journal_lists}
@@ -13,7 +12,7 @@ use Rattle.gsmgate.specs.VerifyRuns.{AreUnread, IsRefused}
 use Rattle.gsmgate.specs.declared.journals.Unread.{Unread}
 use Rattle.gsmgate.specs.declared.journals.Unread.TheVariants as unread
 use Rattle.gsmgate.specs.declared.status.Status.{Status}
-use Rattle.gsmgate.specs.declared.status.Status.TheVariants.{Done, Illegal, Usage, Input, ReadFault, WriteFault, LinkFault, OutOfMemory}
+use Rattle.gsmgate.specs.declared.status.Status.TheVariants.{ReadFault, WriteFault}
 use Rattle.gsmgate.proofs.Refuted.{not_first}
 
 module _ (inputs : List (Option (List ℕ))) where

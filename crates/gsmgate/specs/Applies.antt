@@ -1,5 +1,5 @@
 -- What one event of a script does to its run.
-use Rattle.std.specs.Prelude.{ℕ, ◌≡◌, ◌≤◌, ◌+◌, ◌^◌, List, ◌++◌, length}
+use Rattle.std.specs.Prelude.{◌≡◌, ◌≤◌, ◌+◌, ◌^◌, List, ◌++◌, length}
 use Rattle.std.specs.List.{flat_map}
 use Rattle.frame_codec.specs.declared.item.Item.{Item}
 use Rattle.play_machine.specs.declared.reply.FileReply.{FileReply}

@@ -1,5 +1,5 @@
 -- What the events of a script come to: the calls that they make, and the ends of their datagrams.
-use Rattle.std.specs.Prelude.{ℕ, ◌≡◌, ◌-◌, ◌<◌, ◌^◌, List, [], ◌∷◌, ◌++◌, map, replicate, slice_get, slice_set, Bool, true, false, Some, None, ◌⊎◌}
+use Rattle.std.specs.Prelude.{ℕ, ◌≡◌, ◌-◌, ◌<◌, ◌^◌, List, [], ◌∷◌, map, replicate, slice_get, slice_set, Bool, true, false, Some, None, ◌⊎◌}
 use Rattle.std.specs.List.{flat_map}
 use Rattle.frame_codec.specs.declared.item.Item.{Item}
 use Rattle.play_machine.specs.declared.reply.FileReply.{FileReply}

@@ -1,5 +1,5 @@
 -- What `decode` does: coded frames become speech.
-use Rattle.std.specs.Prelude.{ℕ, ◌≡◌, ◌≤◌, ◌+◌, ◌*◌, ◌/◌, ◌==◌, List, [], ◌∷◌, ◌++◌, length, take, slice_index, ℤ, Option, Some, None, IfSome, nat_le, nat_lt, if◌then◌else◌}
+use Rattle.std.specs.Prelude.{ℕ, ◌≡◌, ◌≤◌, ◌+◌, ◌*◌, ◌/◌, ◌==◌, List, [], ◌∷◌, ◌++◌, length, take, ℤ, Option, Some, None, IfSome, nat_le, nat_lt, if◌then◌else◌}
 use Rattle.std.specs.List.{flat_map, AllByRecursion}
 use Rattle.frame_codec.specs.Frame.{Fields, IsWithinWidths, Spells}
 use Rattle.frame_codec.specs.Octets.{IsFrame}

@@ -1,12 +1,11 @@
 -- What `encode` does: speech becomes coded frames.
-use Rattle.std.specs.Prelude.{ℕ, ◌≡◌, ◌≢◌, ◌≤◌, ◌*◌, List, [], length, ℤ, Option, Some, Result, Ok, Err, IfSome, flat_map}
+use Rattle.std.specs.Prelude.{ℕ, ◌≡◌, ◌≢◌, ◌≤◌, ◌*◌, List, [], length, ℤ, Option, Some, IfSome, flat_map}
 use Rattle.std.specs.List.{AllByRecursion}
 use Rattle.frame_codec.specs.Frame.{Fields}
 use Rattle.frame_codec.specs.Octets.{IsFrame}
 use Rattle.fr_encoder.specs.Coding.{IsCoded}
 use Rattle.player.specs.Pieces.{CutsOff, whole_piece}
 use Rattle.substitution.specs.Heard.{sample_octets}
-use Rattle.recorder.specs.declared.fault.RecordFault.{RecordFault}
 use Rattle.recorder.specs.declared.fault.RecordFault.TheVariants.{TooLong}
 use Rattle.gsmgate.specs.Decode.{AreSpelled, coded, frame_limit}
 use Rattle.gsmgate.specs.Exchange.{Exchange, Gave, GavePart, Noted, NotedPart, NotedUnlessFault}

@@ -154,3 +154,5 @@ mod speech_tests;
 mod tests;
 #[cfg(test)]
 mod thread_tests;
+#[cfg(test)]
+mod verify_tests;

@@ -49,6 +49,7 @@ fn put_word(octets: &mut Vec<u8>, word: &str) -> Result<(), AllocError> {
     match word {
         "script" => octets.extend_from_slice(b"GSMGSC01"),
         "journal" => octets.extend_from_slice(b"GSMGPJ01"),
+        "filer" => octets.extend_from_slice(b"GSMGFJ01"),
         "zeros" => {
             octets.extend_from_slice(&ZEROS)?;
             put_times(octets, &ZERO_PART, 4)
@@ -299,7 +300,7 @@ fn a_fault_in_mid_stream_ends_the_run_there(rt: HostRuntime) -> Result<(), Fail>
 #[test]
 fn other_words_are_refused(rt: HostRuntime) -> Result<(), Fail> {
     let alloc = rt.alloc();
-    for line in ["simulat a b", "simulate a -", ""] {
+    for line in ["simulat a b", "simulate --seed 1 a b", "make 7 0 4 out", ""] {
         let ended = run_over(alloc, line, &[], 1, &[], &[])?;
         assert!(rt;
             ended.status == Status::Usage && *ended.notes.octets() == *b"usage\n".as_slice()
@@ -311,17 +312,53 @@ fn other_words_are_refused(rt: HostRuntime) -> Result<(), Fail> {
 }
 
 #[test]
-fn a_line_names_its_places(rt: HostRuntime) -> Result<(), Fail> {
-    let alloc = rt.alloc();
-    let words = words_of(alloc, "simulate calls played")?;
-    match addresses(alloc, &words) {
-        Ok(places) => {
-            assert!(rt; !places.serve && places.ticks == 0);
-            assert_eq!(rt; places.inputs.len(), 1);
-            assert_eq!(rt; places.inputs[0].as_str(), "calls");
-            assert_eq!(rt; places.output.as_str(), "played");
-        }
-        Err(_) => assert!(rt; false),
+fn another_number_of_inputs_is_refused(rt: HostRuntime) -> Result<(), Fail> {
+    for line in ["verify out player filer", "make 7 1000 4 out", SERVE] {
+        let ended = run_over(rt.alloc(), line, &[], 1, &[], &[])?;
+        assert!(rt;
+            ended.status == Status::Usage && *ended.notes.octets() == *b"usage\n".as_slice()
+        );
     }
+    Ok(())
+}
+
+#[test]
+fn a_line_over_files_names_its_places(rt: HostRuntime) -> Result<(), Fail> {
+    let alloc = rt.alloc();
+    let words = words_of(alloc, "verify order played first second")?;
+    let Ok(places) = addresses(alloc, &words) else {
+        assert!(rt; false);
+        return Ok(());
+    };
+    assert!(rt; !places.serve && places.ticks == 0);
+    assert_eq!(rt; places.inputs.len(), 3);
+    assert_eq!(rt; places.inputs[0].as_str(), "played");
+    assert_eq!(rt; places.inputs[2].as_str(), "second");
+    assert_eq!(rt; places.output.as_str(), "order");
+    assert_eq!(rt; places.links.len() + places.journals.len(), 0);
+    Ok(())
+}
+
+const SERVE: &str =
+    "serve --ticks 50 --reply 127.0.0.1:4010 --speaker heard --microphone said --journals call
+    127.0.0.1:4000 127.0.0.1:4002";
+
+#[test]
+fn a_line_of_serve_names_its_places(rt: HostRuntime) -> Result<(), Fail> {
+    let alloc = rt.alloc();
+    let words = words_of(alloc, SERVE)?;
+    let Ok(places) = addresses(alloc, &words) else {
+        assert!(rt; false);
+        return Ok(());
+    };
+    assert!(rt; places.serve && places.ticks == 50 && places.inputs.is_empty());
+    assert_eq!(rt; places.links.len(), 2);
+    assert_eq!(rt; places.links[1].as_str(), "127.0.0.1:4002");
+    assert_eq!(rt; places.reply.as_str(), "127.0.0.1:4010");
+    assert_eq!(rt; places.speaker.as_str(), "heard");
+    assert_eq!(rt; places.microphone.as_str(), "said");
+    assert_eq!(rt; places.journals.len(), 3);
+    assert_eq!(rt; places.journals[0].as_str(), "call.player");
+    assert_eq!(rt; places.journals[2].as_str(), "call.1");
     Ok(())
 }

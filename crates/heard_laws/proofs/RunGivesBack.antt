@@ -1,6 +1,7 @@
 -- A player's run that came to its end has a journal that gives back what its speaker got.
 use Rattle.std.proofs.Common.{◌≡◌, ◌⊎◌, ℕ, ◌+◌, ◌<◌, ◌≤◌, List, [], ◌∷◌, ◌++◌, length, map, replicate, Option, Some, None, sym, ap, subst, ◌∙◌, inl, inr, arith}
 use Rattle.std.specs.Prelude.{ℤ}
+use Rattle.std.proofs.lemmas.List.{length-append, length-map, length-replicate}
 use Rattle.frame_codec.specs.declared.item.Item.{Item}
 use Rattle.play_machine.specs.declared.call.Call.{Call}
 use Rattle.play_machine.specs.declared.call.Call.TheVariants.{PeekCall, TickCall}
@@ -10,13 +11,15 @@ use Rattle.heard_laws.specs.Rendered.{RunRenders}
 use Rattle.heard_laws.proofs.GivenBack.{journal_gives_back}
 
 long : (idle base : ℕ) (items : List Item) → length (replicate idle (PeekCall None) ++ PeekCall (Some base) ∷ map TickCall items) ≡ idle + (1 + length items)
-long idle base items = simp
+long idle base items =
+    length-append (replicate idle (PeekCall None)) (PeekCall (Some base) ∷ map TickCall items)
+    ∙ omega (arith, length-replicate idle (PeekCall None), length-map items TickCall)
 
 -- the calls of so many beats are one more at most
 pub beats_are_few : (made : ℕ) (calls : List Call) → AreBeats made calls → length calls ≤ made + 1
 beats_are_few made calls beats = elim beats [
-  | inl none ↦ let l : length calls ≡ made = rw none simp in omega (arith, l)
-  | inr some ↦ let l : length calls ≡ some.0 + (1 + length some.2.0) = rw some.2.2.2.2 (long some.0 some.1 some.2.0) in omega (arith, l, some.2.2.2.1)
+  | inl none ↦ let l : length calls ≡ made = ap (λ (c : List Call). length c) none ∙ length-replicate made (PeekCall None) in omega (arith, l)
+  | inr some ↦ let l : length calls ≡ some.0 + (1 + length some.2.0) = ap (λ (c : List Call). length c) some.2.2.2.2 ∙ long some.0 some.1 some.2.0 in omega (arith, l, some.2.2.2.1)
 ]
 
 pub run_gives_back : RunRenders

@@ -1,5 +1,4 @@
-use Rattle.std.proofs.Common.{◌≡◌, ℕ, List, [], ◌∷◌, ◌++◌, refl, arith}
-use Rattle.std.specs.Prelude.{ℤ}
+use Rattle.std.proofs.Common.{[], ◌∷◌, ◌++◌, refl, arith}
 use Rattle.std.proofs.KnownBytes.{Appends-nil}
 use Rattle.gsmgate.proofs.Encoding.{CutFrom-start, ended, encoding-broken, encoding-more, refused, stopped}
 use Rattle.gsmgate.proofs.encode.code_pieces.Goals as goal

@@ -1,8 +1,6 @@
-use Rattle.std.proofs.Common.{◌≡◌, ◌+◌, ℕ, Err, ◌∷◌, [], ◌++◌, List, slice_index_or, slice_set, map, refl, sym, subst, ap, ◌∙◌, arith}
+use Rattle.std.proofs.Common.{◌≡◌, ◌+◌, Err, ◌∷◌, [], ◌++◌, List, slice_index_or, slice_set, map, sym, subst, ap, ◌∙◌, arith}
 use Rattle.std.proofs.lemmas.Option.{slice_get-get_or}
-use Rattle.recorder.specs.declared.fault.RecordEnd.TheVariants as ends
 use Rattle.recorder.specs.declared.refusal.JournalRefusal.{JournalRefusal}
-use Rattle.recorder.specs.declared.refusal.JournalRefusal.TheVariants as refusal
 use Rattle.recorder.specs.Heads.{Heading}
 use Rattle.recorder.specs.Journals.{FilerRecord}
 use Rattle.gsmgate.specs.VerifyRuns.{FilersUnread, unread_at}

@@ -1,4 +1,4 @@
-use Rattle.std.proofs.Common.{◌≡◌, Err, slice_index_or, sym, subst, ap}
+use Rattle.std.proofs.Common.{◌≡◌, Err, slice_index_or, subst, ap}
 use Rattle.recorder.specs.Heads.{Heading}
 use Rattle.replay_check.specs.Journals.{AreNumbered}
 use Rattle.gsmgate.specs.declared.journals.Unread.{Unread}

@@ -1,8 +1,6 @@
-use Rattle.std.proofs.Common.{List, ℕ, ◌+◌, sym, subst, take, arith}
+use Rattle.std.proofs.Common.{sym, subst, arith}
 use Rattle.std.specs.Io.KnownBytes.{Appends}
 use Rattle.std.proofs.KnownBytes.{Appends-trans}
-use Rattle.gsmgate.specs.Notes.{reply_line}
-use Rattle.gsmgate.specs.Outcomes.{filed_lines}
 use Rattle.gsmgate.proofs.Replies.{lines-broken, lines-more}
 use Rattle.gsmgate.proofs.refusals.give_replies.Goals as goal
 

@@ -1,5 +1,4 @@
 use Rattle.std.proofs.Common.{◌≡◌, ◌≤◌, ◌+◌, ℕ, ◌∷◌, [], ◌++◌, sym, ap, subst, ◌∙◌, inl, inr, arith}
-use Rattle.std.specs.Prelude.{◌⊎◌}
 use Rattle.gate_base.specs.Faults.{Rose}
 use Rattle.play_machine.specs.Line.{Line}
 use Rattle.recorder.specs.Reader.{Progress}

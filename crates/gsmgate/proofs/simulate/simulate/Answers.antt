@@ -1,4 +1,4 @@
-use Rattle.std.proofs.Common.{ℕ, refl, arith}
+use Rattle.std.proofs.Common.{refl}
 use Rattle.gsmgate.specs.Exchange.{Exchange}
 use Rattle.gsmgate.proofs.Ends.{head-refused, no-front, refused-after, stopped, broken-off, finished, not_refused}
 use Rattle.gsmgate.proofs.simulate.simulate.Goals as goal

@@ -1,4 +1,4 @@
-use Rattle.std.proofs.Common.{◌≡◌, Err, map, ap, inl}
+use Rattle.std.proofs.Common.{Err, map, ap, inl}
 use Rattle.std.specs.Prelude.{◌⊎◌}
 use Rattle.gate_base.specs.Faults.{Rose}
 use Rattle.gsmgate.specs.Exchange.{SomeRose}

@@ -1,4 +1,4 @@
-use Rattle.std.proofs.Common.{◌∷◌, [], ◌++◌, subst, sym}
+use Rattle.std.proofs.Common.{◌∷◌, [], subst, sym}
 use Rattle.substitution.specs.Heard.{sample_octets}
 use Rattle.recorder.specs.Play.{event_of_item, play_event_text}
 use Rattle.gsmgate.specs.Playing.{GoesOn}

@@ -1,14 +1,10 @@
-use Rattle.std.proofs.Common.{List, ℕ, [], ◌∷◌, Some, None, true, false, refl, sym, subst, append-nil}
-use Rattle.std.specs.Io.KnownBytes.{Appends}
-use Rattle.gate_io.specs.Flow.{AppendsPart}
-use Rattle.frame_codec.specs.declared.item.Item.TheVariants.{Idle}
-use Rattle.play_machine.specs.declared.call.Call.TheVariants.{FileCall, PeekCall, TickCall}
+use Rattle.std.proofs.Common.{[], ◌∷◌, true, refl}
+use Rattle.play_machine.specs.declared.call.Call.TheVariants.{TickCall}
 use Rattle.play_machine.specs.History.{entry}
 use Rattle.gsmgate.specs.Calls.{bare}
-use Rattle.gsmgate.specs.Notes.{reply_line}
 use Rattle.gsmgate.specs.declared.run.Run.{Run}
-use Rattle.gsmgate.proofs.Events.{calls_of-other, file_applies, first_applies, idle_applies, tick_applies}
-use Rattle.gsmgate.proofs.Playbacks.{call-goes-on, first-goes-on}
+use Rattle.gsmgate.proofs.Events.{tick_applies}
+use Rattle.gsmgate.proofs.Playbacks.{call-goes-on}
 use Rattle.gsmgate.proofs.run.Run.tick.Goals as goal
 
 pub returns-in-Ok-clause-applied : goal.returns-in-Ok-clause-applied
