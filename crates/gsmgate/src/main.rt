@@ -3,6 +3,7 @@
 
 mod decode;
 mod encode;
+mod ends;
 mod filers;
 mod journals;
 mod line;
@@ -30,7 +31,13 @@ use gate_base::OutOfMemory;
 use gate_os::{OsClock, OsSink, OsSource, UdpLink};
 use std::alloc::AllocError;
 use std::env;
+use std::fs::Files;
+use std::io::Print;
+use std::net::Net;
 use std::process::ExitCode;
+use std::sync::Wait;
+use std::thread::Threads;
+use std::time::Clock;
 
 fn code_of(status: Status) -> ExitCode {
     ExitCode::from(status as u8)
@@ -72,10 +79,10 @@ fn any_port(there: &str) -> &'static str {
 }
 
 // The journals of a line, the player's first.
-fn create_all<'a>(
-    rt: &'a HostRuntime,
+fn create_all<'a, R: Files + Print + Sync + AllocGlobal>(
+    rt: &'a R,
     paths: &[String],
-) -> Result<Vec<OsSink<'a, HostRuntime>>, OutOfMemory> {
+) -> Result<Vec<OsSink<'a, R>>, OutOfMemory> {
     let mut sinks = Vec::new(rt.alloc());
     for path in paths {
         sinks.push(OsSink::create(rt, rt.alloc(), path.as_str())?)?;
@@ -84,11 +91,14 @@ fn create_all<'a>(
 }
 
 // Runs the gateway over the sockets and the files that the words name.
-fn run_gateway(
-    rt: &HostRuntime,
+fn run_gateway<R: Threads + Wait + Net + Clock + Files + Print + Sync + AllocGlobal>(
+    rt: &R,
     words: &Vec<String>,
     places: &Places,
-) -> Result<Status, OutOfMemory> {
+) -> Result<Status, OutOfMemory>
+where
+    R::File: Send,
+{
     let mut links = Vec::new(rt.alloc());
     for here in &places.links {
         links.push(UdpLink::bind(rt, rt.alloc(), here.as_str(), "", places.ticks)?)?;

@@ -201,7 +201,7 @@ fn run_one<I: Source, O: Sink, E: Sink>(
 }
 
 // Notes that the words are no line. A fault of the notes changes nothing in the answer.
-fn refuse_words<E: Sink>(notes: &mut E) -> Status
+pub(crate) fn refuse_words<E: Sink>(notes: &mut E) -> Status
     ensures status { result ≡ Status.Usage }
     ensures noted { GainedUnlessFault (E.given notes.old) (E.given notes.new) (E.faults notes.old) (E.faults notes.new) usage_line }
     ensures later { E.faults notes.old ≤ E.faults notes.new }

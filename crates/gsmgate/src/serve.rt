@@ -2,25 +2,23 @@
 ghost use Rattle.std.specs.Prelude.{◌≡◌, ◌≤◌, ◌+◌, ◌⊎◌, ◌↔◌, Some, None, true, false, map, length, IfOk, IfErr, IfSome, IsErrOf};
 ghost use Rattle.std.specs.String.{string_bytes};
 ghost use Rattle.std.specs.Io.KnownBytes.{Appends};
-ghost use Rattle.gate_base.specs.Faults.{HasCause, Rose};
-ghost use Rattle.gate_io.specs.Flow.{Gives};
-ghost use Rattle.command_line.specs.Lines.{ServeSaid, fits_serve, line_of};
+ghost use Rattle.gate_base.specs.Faults.{Rose};
+ghost use Rattle.command_line.specs.Said.{ServeSaid};
+ghost use Rattle.command_line.specs.Lines.{fits_serve, line_of};
 ghost use Rattle.command_line.specs.declared.line.Line.TheVariants.{Serve};
 ghost use Rattle.line_run.specs.Line.{LineRan};
 ghost use Rattle.line_run.specs.Seen.{clock_seen, link_seen, player_seen, sink_seen, source_seen};
 ghost use Rattle.gsmgate.specs.Exchange.{GainedUnlessFault, SomeRose};
 ghost use Rattle.gsmgate.specs.Notes.{usage_line};
-ghost use Rattle.gsmgate.specs.Serve.{StatusFollows, fault_of_ends, filer_fault, line_options, lowest_fault, player_fault, serve_lines};
+ghost use Rattle.gsmgate.specs.Serve.{StatusFollows, fault_of_ends, line_options, serve_lines};
 
-use crate::notes::{give_link, give_plays};
+use crate::ends::finish;
 use crate::offline::refuse_words;
 use crate::status::Status;
 use command_line::{Line, Refusal, ServeOptions, read_line};
-use filer::FilerEnd;
 use gate_base::OutOfMemory;
-use gate_io::{Failed, Link, Sink, Source, TickClock};
-use line_run::{FilerEnds, LineEnd, LineOptions, open_line, run_line};
-use player::PlayerEnd;
+use gate_io::{Link, Sink, Source, TickClock};
+use line_run::{LineEnd, LineOptions, open_line, run_line};
 use std::alloc::Global;
 use std::sync::Wait;
 use std::thread::Threads;
@@ -32,6 +30,13 @@ pub struct Served {
     pub status: Status,
     /// What the line's run answered: none exactly with `Usage` and `OutOfMemory`.
     pub end: Option<LineEnd>,
+}
+
+// Nobody ran.
+fn refused(status: Status) -> Served
+    ensures { (result.status ≡ status) × (result.end ≡ None) }
+{
+    Served { status, end: None }
 }
 
 // The options of a line, as the words say them.
@@ -50,90 +55,13 @@ fn options_of(said: &ServeOptions) -> LineOptions
     }
 }
 
-// The status of a player's end, where it is a fault.
-fn player_fault(end: PlayerEnd) -> Option<Status>
-    ensures { result ≡ player_fault end }
-{
-    match end {
-        PlayerEnd::Ended => None,
-        PlayerEnd::SpeakerFault => Some(Status::WriteFault),
-        PlayerEnd::JournalFault => Some(Status::WriteFault),
-        PlayerEnd::MicFault => Some(Status::ReadFault),
-        PlayerEnd::ReplyFault => Some(Status::LinkFault),
-    }
-}
-
-// The status of a filer's end, where it is a fault.
-fn filer_fault(end: FilerEnd) -> Option<Status>
-    ensures { result ≡ filer_fault end }
-{
-    match end {
-        FilerEnd::Ended => None,
-        FilerEnd::LinkFault => Some(Status::LinkFault),
-        FilerEnd::JournalFault => Some(Status::WriteFault),
-    }
-}
-
-// That of the lowest filer that has not ended well.
-fn lowest_fault(filers: &FilerEnds) -> Option<Status>
-    ensures { result ≡ lowest_fault filers.now }
-{
-    'filers: for k in 0..filers.len() {
-        let fault = filer_fault(filers.get(k).0);
-        if fault.is_some() {
-            return fault;
-        }
-    }
-    None
-}
-
-// The player's fault, else that of the lowest filer.
-fn fault_of(end: &LineEnd) -> Option<Status>
-    ensures { result ≡ fault_of_ends end.now.player end.now.filers }
-{
-    let fault = player_fault(end.player);
-    if fault.is_some() {
-        return fault;
-    }
-    lowest_fault(&end.filers)
-}
-
-// Notes what the beats and the datagrams came to.
-fn give_end<E: Sink>(end: &LineEnd, notes: &mut E) -> Result<(), Failed>
-    ensures given { Gives (E.given notes.old) (E.given notes.new) result (serve_lines end.now.played end.now.filers) }
-    ensures cause { HasCause (E.faults notes.old) (E.faults notes.new) result }
-    ensures kin { E.kin notes.old notes.new }
-{
-    give_plays(&end.played, notes)?;
-    'filers: for k in 0..end.filers.len() {
-        match give_link(k as u64, &end.filers.get(k).1, notes) {
-            Ok(()) => {}
-            Err(Failed) => return Err(Failed),
-        }
-    }
-    Ok(())
-}
-
-// The status of a line that has run, whose notes are given here.
-fn finish<E: Sink>(end: &LineEnd, notes: &mut E) -> Status
-    ensures status { StatusFollows (fault_of_ends end.now.player end.now.filers) result (Appends (E.given notes.old) (E.given notes.new) (serve_lines end.now.played end.now.filers)) }
-    ensures noted { GainedUnlessFault (E.given notes.old) (E.given notes.new) (E.faults notes.old) (E.faults notes.new) (serve_lines end.now.played end.now.filers) }
-    ensures cause { fault_of_ends end.now.player end.now.filers ≡ None → result ≡ Status.WriteFault → Rose (E.faults notes.old) (E.faults notes.new) }
-    ensures later { E.faults notes.old ≤ E.faults notes.new }
-    ensures kin { E.kin notes.old notes.new }
-{
-    let given = give_end(end, notes);
-    match fault_of(end) {
-        Some(fault) => fault,
-        None => match given {
-            Ok(()) => Status::Done,
-            Err(Failed) => Status::WriteFault,
-        },
-    }
-}
-
 // The line of these words, for so many links and journals.
-fn line_for(alloc: Global, words: &[String], links: usize, journals: usize) -> Result<line_run::Line, Status>
+fn line_for(
+    alloc: Global,
+    words: &[String],
+    links: usize,
+    journals: usize,
+) -> Result<line_run::Line, Status>
     ensures opened { IfOk result (λ l. (said : ServeSaid) × (line_of (map string_bytes words.now) ≡ Some (Serve said)) × (l.filers ≡ length said.listen) × (l.options ≡ line_options said.options)
         × (length said.listen ≡ links) × (journals ≡ 1 + links)) }
     ensures usage { IsErrOf result Status.Usage → fits_serve (map string_bytes words.now) links journals ≡ false }
@@ -191,93 +119,6 @@ pub fn run_serve<
         (player_seen (clock_seen C.ticks C.ended clock.old) (sink_seen O.given O.faults speaker.old) (source_seen I.left I.faults microphone.old) (link_seen P.log P.ended P.faults reply.old))
         (player_seen (clock_seen C.ticks C.ended clock.new) (sink_seen O.given O.faults speaker.new) (source_seen I.left I.faults microphone.new) (link_seen P.log P.ended P.faults reply.new))
         e.player e.played e.filers e.left) }
-    ensures status { StatusFollows (fault_of_ends end.now.player end.now.filers) result (Appends (E.given notes.old) (E.given notes.new) (serve_lines end.now.played end.now.filers)) }
-    ensures noted { GainedUnlessFault (E.given notes.old) (E.given notes.new) (E.faults notes.old) (E.faults notes.new) (serve_lines end.now.played end.now.filers) }
-    ensures cause { fault_of_ends end.now.player end.now.filers ≡ None → result ≡ Status.WriteFault → Rose (E.faults notes.old) (E.faults notes.new) }
-    ensures later { E.faults notes.old ≤ E.faults notes.new }
-    ensures kin { E.kin notes.old notes.new }
-{
-    let given = give_end(end, notes);
-    match fault_of(end) {
-        Some(fault) => fault,
-        None => match given {
-            Ok(()) => Status::Done,
-            Err(Failed) => Status::WriteFault,
-        },
-    }
-}
-
-// The line of these words, for so many links and journals.
-fn line_for(alloc: Global, words: &[String], links: usize, journals: usize) -> Result<line_run::Line, Status>
-    ensures opened { IfOk result (λ l. (said : ServeSaid) × (line_of (map string_bytes words.now) ≡ Some (Serve said)) × (l.filers ≡ length said.listen) × (l.options ≡ line_options said.options)
-        × (length said.listen ≡ links) × (journals ≡ 1 + links)) }
-    ensures usage { IsErrOf result Status.Usage → fits_serve (map string_bytes words.now) links journals ≡ false }
-    ensures fits { IfOk result (λ l. fits_serve (map string_bytes words.now) links journals ≡ true) }
-    ensures only { IfErr result (λ s. (s ≡ Status.Usage) ⊎ (s ≡ Status.OutOfMemory)) }
-{
-    let said = match read_line(alloc, words) {
-        Ok(Line::Serve(said)) => said,
-        Ok(Line::Files(_)) => return Err(Status::Usage),
-        Err(Refusal::Usage) => return Err(Status::Usage),
-        Err(Refusal::OutOfMemory) => return Err(Status::OutOfMemory),
-    };
-    if said.listen.len() != links || journals != links + 1 {
-        return Err(Status::Usage);
-    }
-    match open_line(alloc, links as u32, &options_of(&said.options)) {
-        Ok(line) => Ok(line),
-        Err(OutOfMemory) => Err(Status::OutOfMemory),
-    }
-}
-
-/// Does the command `serve` of the words over the links, one for each address that they listen on, and the journals, the
-/// player's first. All callers run at once, each on a thread of its own, to their ends; it waits as long as they do.
-///
-/// `Usage` comes exactly where the words are no line of serve or the lists have other lengths than they say, and then, as with
-/// `OutOfMemory`, nothing is taken, and nothing given but the line `usage` to the notes.
-pub fn run_serve<
-    R: Threads + Wait + Sync,
-    P: Link + Send,
-    I: Source + Send,
-    O: Sink + Send,
-    J: Sink + Send,
-    E: Sink,
-    C: TickClock + Send,
->(
-    rt: &R,
-    alloc: Global,
-    words: &Vec<String>,
-    links: &mut Vec<P>,
-    reply: &mut P,
-    microphone: &mut I,
-    speaker: &mut O,
-    journals: &mut Vec<J>,
-    notes: &mut E,
-    clock: &mut C,
-) -> Served
-    ensures usage { result.status ≡ Status.Usage → fits_serve (map string_bytes words.now.items) (length links.old.items) (length journals.old.items) ≡ false }
-    ensures usage_only { fits_serve (map string_bytes words.now.items) (length links.old.items) (length journals.old.items) ≡ false → (result.status ≡ Status.Usage) ⊎ (result.status ≡ Status.OutOfMemory) }
-    ensures no_end { (result.end ≡ None) ↔ ((result.status ≡ Status.Usage) ⊎ (result.status ≡ Status.OutOfMemory)) }
-    ensures untouched { result.end ≡ None → (links.new ≡ links.old) × (reply.new ≡ reply.old) × (microphone.new ≡ microphone.old) × (speaker.new ≡ speaker.old) × (journals.new ≡ journals.old) × (clock.new ≡ clock.old) }
-    ensures refused { result.status ≡ Status.Usage → GainedUnlessFault (E.given notes.old) (E.given notes.new) (E.faults notes.old) (E.faults notes.new) usage_line }
-    ensures starved { result.status ≡ Status.OutOfMemory → notes.new ≡ notes.old }
-    ensures ran { IfSome result.end (λ e. (said : ServeSaid) × (line_of (map string_bytes words.now.items) ≡ Some (Serve said))
-        × LineRan (record { filers = length said.listen; options = line_options said.options })
-          (λ p. record { log = P.log p; ended = P.ended p; faults = P.faults p }) (λ j. record { given = J.given j; faults = J.faults j })
-          links.old.items journals.old.items links.new.items journals.new.items
-          (record {
-            clock = record { ticks = C.ticks clock.old; ended = C.ended clock.old };
-            speaker = record { given = O.given speaker.old; faults = O.faults speaker.old };
-            microphone = record { left = I.left microphone.old; faults = I.faults microphone.old };
-            reply = record { log = P.log reply.old; ended = P.ended reply.old; faults = P.faults reply.old };
-          })
-          (record {
-            clock = record { ticks = C.ticks clock.new; ended = C.ended clock.new };
-            speaker = record { given = O.given speaker.new; faults = O.faults speaker.new };
-            microphone = record { left = I.left microphone.new; faults = I.faults microphone.new };
-            reply = record { log = P.log reply.new; ended = P.ended reply.new; faults = P.faults reply.new };
-          })
-          e.player e.played e.filers e.left) }
     ensures status { IfSome result.end (λ e. StatusFollows (fault_of_ends e.player e.filers) result.status (Appends (E.given notes.old) (E.given notes.new) (serve_lines e.played e.filers))) }
     ensures noted { IfSome result.end (λ e. GainedUnlessFault (E.given notes.old) (E.given notes.new) (E.faults notes.old) (E.faults notes.new) (serve_lines e.played e.filers)) }
     ensures read { result.status ≡ Status.ReadFault → Rose (I.faults microphone.old) (I.faults microphone.new) }
@@ -285,21 +126,16 @@ pub fn run_serve<
     ensures link { result.status ≡ Status.LinkFault → SomeRose (map P.faults links.old.items) (map P.faults links.new.items) ⊎ Rose (P.faults reply.old) (P.faults reply.new) }
     ensures complete { fits_serve (map string_bytes words.now.items) (length links.old.items) (length journals.old.items) ≡ true
         → ¬ (Rose (I.faults microphone.old) (I.faults microphone.new) ⊎ Rose (O.faults speaker.old) (O.faults speaker.new) ⊎ SomeRose (map J.faults journals.old.items) (map J.faults journals.new.items)
-            ⊎ Rose (E.faults notes.old) (E.faults notes.new) ⊎ SomeRose (map P.faults links.old.items) (map P.faults links.new.items) ⊎ Rose (P.faults reply.old) (P.faults reply.new))
+        ⊎ Rose (E.faults notes.old) (E.faults notes.new) ⊎ SomeRose (map P.faults links.old.items) (map P.faults links.new.items) ⊎ Rose (P.faults reply.old) (P.faults reply.new))
         → (result.status ≡ Status.Done) ⊎ (result.status ≡ Status.OutOfMemory) }
     ensures kin { O.kin speaker.old speaker.new × E.kin notes.old notes.new }
 {
     let line = match line_for(alloc, words, links.len(), journals.len()) {
         Ok(line) => line,
-        Err(Status::Usage) => {
-            let status = refuse_words(notes);
-            return Served { status, end: None };
-        }
-        Err(status) => return Served { status, end: None },
+        Err(Status::Usage) => return refused(refuse_words(notes)),
+        Err(status) => return refused(status),
     };
-    let end = run_line(
-        rt, line, links, reply, microphone, speaker, journals, clock,
-    );
+    let end = run_line(rt, line, links, reply, microphone, speaker, journals, clock);
     let status = finish(&end, notes);
     Served {
         status,

@@ -41,7 +41,9 @@ fn is_first_packet(reply: &MemoryLink) -> bool {
     }
     let packet = reply.sent(0);
     packet.len() == 45
-        && packet.starts_with(&[0x80, 3, 0, 0, 0, 0, 0, 0, 0, 0, 0, 1, 0xD8, 0x20, 0xA2, 0xE1, 0x5A])
+        && packet.starts_with(&[
+            0x80, 3, 0, 0, 0, 0, 0, 0, 0, 0, 0, 1, 0xD8, 0x20, 0xA2, 0xE1, 0x5A,
+        ])
         && packet.ends_with(&[0x50, 0, 0x49, 0x24, 0x92, 0x49, 0x24])
 }
 
@@ -150,7 +152,8 @@ link 0 datagrams 0 accepted 0 duplicate 0 late 0 beyond 0 refused 0 stranger 0 r
 
 #[test]
 fn a_number_out_of_its_range_is_no_line(rt: HostRuntime) -> Result<(), Fail> {
-    let line = "serve --ring 11 --reply 127.0.0.1:9000 --speaker s --microphone m --journals j 127.0.0.1:9001";
+    let line =
+        "serve --ring 11 --reply 127.0.0.1:9000 --speaker s --microphone m --journals j 127.0.0.1:9001";
     let came = comes_to(&rt, rt.alloc(), line, 2, &[], b"", "usage\n")?;
     assert_eq!(rt; came.status, Status::Usage);
     assert_eq!(rt; came.player, None);

@@ -15,6 +15,7 @@ use std::thread::Threads;
 const LOOKS: u64 = 10_000_000;
 
 // How far the link and the clock have come.
+#[derive(Drop)]
 struct Flags {
     link: AtomicU64,
     clock: AtomicU64,
@@ -58,6 +59,7 @@ fn put_packet(sequence: u8, into: &mut [u8; 2048]) {
 const PACKET: Received = Received::Datagram { len: 45, at: 0 };
 
 // A link whose second datagram comes once the clock has given a tick. It looks so often at most.
+#[derive(Drop)]
 struct GatedLink<'a> {
     flags: &'a Flags,
     given: u8,
@@ -98,6 +100,7 @@ impl<'a> Link for GatedLink<'a> {
 }
 
 // A clock of two ticks, the second of which waits for the link: at its second datagram, or at its second receive.
+#[derive(Drop)]
 struct WaitingClock<'a> {
     flags: &'a Flags,
     given: u8,
@@ -125,6 +128,7 @@ impl<'a> TickClock for WaitingClock<'a> {
 }
 
 // A link whose second receive waits for the second wait of the clock.
+#[derive(Drop)]
 struct MeetingLink<'a> {
     flags: &'a Flags,
     receives: u8,

@@ -19,7 +19,7 @@ long idle base items =
 pub beats_are_few : (made : ℕ) (calls : List Call) → AreBeats made calls → length calls ≤ made + 1
 beats_are_few made calls beats = elim beats [
   | inl none ↦ let l : length calls ≡ made = ap (λ (c : List Call). length c) none ∙ length-replicate made (PeekCall None) in omega (arith, l)
-  | inr some ↦ let l : length calls ≡ some.0 + (1 + length some.2.0) = ap (λ (c : List Call). length c) some.2.2.2.2 ∙ long some.0 some.1 some.2.0 in omega (arith, l, some.2.2.2.1)
+  | inr some ↦ let l : length calls ≡ some.0 + (1 + length some.2) = ap (λ (c : List Call). length c) some.5 ∙ long some.0 some.1 some.2 in omega (arith, l, some.4)
 ]
 
 pub run_gives_back : RunRenders
