@@ -3,7 +3,6 @@
 
 mod decode;
 mod encode;
-mod ends;
 mod filers;
 mod journals;
 mod line;
@@ -18,6 +17,7 @@ mod refusals;
 mod render;
 mod run;
 mod serve;
+mod serve_end;
 mod simulate;
 mod status;
 mod stop;

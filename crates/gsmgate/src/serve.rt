@@ -12,8 +12,8 @@ ghost use Rattle.gsmgate.specs.Exchange.{GainedUnlessFault, SomeRose};
 ghost use Rattle.gsmgate.specs.Notes.{usage_line};
 ghost use Rattle.gsmgate.specs.Serve.{StatusFollows, fault_of_ends, line_options, serve_lines};
 
-use crate::ends::finish;
 use crate::offline::refuse_words;
+use crate::serve_end::finish;
 use crate::status::Status;
 use command_line::{Line, Refusal, ServeOptions, read_line};
 use gate_base::OutOfMemory;
