@@ -1,4 +1,4 @@
-use Rattle.std.proofs.Common.{◌≡◌, Some, inr, sym, ap, ◌∙◌}
+use Rattle.std.proofs.Common.{◌≡◌, Some, None, inr, sym, ap, ◌∙◌}
 use Rattle.recorder.specs.declared.fault.RecordFault.{RecordFault}
 use Rattle.gsmgate.specs.Verify.{filer_misfit}
 use Rattle.gsmgate.proofs.ReadJournals.{fits-filer, tells-filer}
