@@ -24,3 +24,6 @@ pub use options::LineOptions;
 pub use player::{PlayTally, PlayerEnd};
 pub use run::run_line;
 pub use slot_ring::Left;
+
+#[cfg(test)]
+mod tests;
