@@ -16,3 +16,4 @@ pub mod Refuted
 pub mod VerifyEnds
 pub mod OrderLines
 pub mod JournalNames
+pub mod LinkLines

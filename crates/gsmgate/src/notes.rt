@@ -112,7 +112,7 @@ fn put_others(line: &mut Line, tally: &Tally)
 
 // Writes what datagrams and their frames came to, and gives the line.
 fn give_counts<E: Sink>(mut line: Line, tally: &Tally, notes: &mut E) -> Result<(), Failed>
-    requires { length line ≤ 70 }
+    requires { length line ≤ 40 }
     ensures given { Gives (E.given notes.old) (E.given notes.new) result (tally_line line tally.now) }
     ensures cause { HasCause (E.faults notes.old) (E.faults notes.new) result }
     ensures kin { E.kin notes.old notes.new }

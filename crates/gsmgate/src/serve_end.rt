@@ -4,7 +4,7 @@ ghost use Rattle.std.specs.Io.KnownBytes.{Appends};
 ghost use Rattle.gate_base.specs.Faults.{HasCause, Rose};
 ghost use Rattle.gate_io.specs.Flow.{Gives};
 ghost use Rattle.gsmgate.specs.Exchange.{GainedUnlessFault};
-ghost use Rattle.gsmgate.specs.Serve.{StatusFollows, fault_of_ends, filer_fault, lowest_fault, player_fault, serve_lines};
+ghost use Rattle.gsmgate.specs.Serve.{StatusFollows, fault_of_ends, filer_fault, link_lines, lowest_fault, player_fault, serve_lines};
 
 use crate::notes::{give_link, give_plays};
 use crate::status::Status;
@@ -59,6 +59,21 @@ fn fault_of(end: &LineEnd) -> Option<Status>
     lowest_fault(&end.filers)
 }
 
+// Notes what the datagrams of each filer came to.
+fn give_links<E: Sink>(filers: &FilerEnds, notes: &mut E) -> Result<(), Failed>
+    ensures given { Gives (E.given notes.old) (E.given notes.new) result (link_lines 0 filers.now) }
+    ensures cause { HasCause (E.faults notes.old) (E.faults notes.new) result }
+    ensures kin { E.kin notes.old notes.new }
+{
+    'filers: for k in 0..filers.len() {
+        match give_link(k as u64, &filers.get(k).1, notes) {
+            Ok(()) => {}
+            Err(Failed) => return Err(Failed),
+        }
+    }
+    Ok(())
+}
+
 // Notes what the beats and the datagrams came to.
 fn give_end<E: Sink>(end: &LineEnd, notes: &mut E) -> Result<(), Failed>
     ensures given { Gives (E.given notes.old) (E.given notes.new) result (serve_lines end.now.played end.now.filers) }
@@ -66,16 +81,9 @@ fn give_end<E: Sink>(end: &LineEnd, notes: &mut E) -> Result<(), Failed>
     ensures kin { E.kin notes.old notes.new }
 {
     match give_plays(&end.played, notes) {
-        Ok(()) => {}
-        Err(Failed) => return Err(Failed),
+        Ok(()) => give_links(&end.filers, notes),
+        Err(Failed) => Err(Failed),
     }
-    'filers: for k in 0..end.filers.len() {
-        match give_link(k as u64, &end.filers.get(k).1, notes) {
-            Ok(()) => {}
-            Err(Failed) => return Err(Failed),
-        }
-    }
-    Ok(())
 }
 
 /// The status of a line that has run, whose notes are given here.
