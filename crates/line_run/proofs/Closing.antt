@@ -1,8 +1,6 @@
 -- The lists of all callers of a line.
-use Rattle.std.proofs.Common.{◌≡◌, ◌⊎◌, inl, inr, ℕ, suc, zero, ◌+◌, ◌<◌, ◌≤◌, List, length, set, Option, Some, None, refl, sym, ap, ◌∙◌, subst, arith}
+use Rattle.std.proofs.Common.{◌≡◌, ◌⊎◌, inl, inr, ℕ, suc, zero, ◌+◌, ◌<◌, ◌≤◌, List, length, set, Some, None, refl, sym, ap, ◌∙◌, arith}
 use Rattle.std.specs.Prelude.{slice_get, replicate}
-use mathlib.Core.Option.{some}
-use lib.ListN.{get_elem?}
 use Rattle.play_machine.specs.declared.call.Call.{Call}
 use Rattle.step_table.specs.Packed.{Where}
 use Rattle.slot_ring.specs.Seen.{PassView, no_lists}

@@ -1,6 +1,5 @@
 -- From the callers' lists to the one history of a line.
 use Rattle.std.proofs.Common.{◌≡◌, ℕ, suc, zero, ◌+◌, ◌^◌, ◌<◌, ◌≤◌, List, [], ◌∷◌, length, map, Option, Some, refl, sym, ap, ◌∙◌, subst, arith}
-use Rattle.std.specs.Prelude.{slice_get}
 use mathlib.Core.Option.{some, some-ne-none, some-injective}
 use lib.ListN.{get_elem?}
 use Rattle.play_machine.specs.declared.call.Call.{Call}
@@ -15,8 +14,7 @@ use Rattle.filer.specs.declared.run.FilerEnd.{FilerEnd}
 use Rattle.player.specs.declared.run.PlayerEnd.{PlayerEnd}
 use Rattle.line_run.specs.declared.caller.Caller.{Caller}
 use Rattle.line_run.specs.declared.player_caller.PlayerCaller.{PlayerCaller}
-use Rattle.line_run.specs.Callers.{AllRan, AreLists, AreNew, AreNumbered, CallerRan, PlayerThere, told}
-use Rattle.line_run.specs.Fan.{Each}
+use Rattle.line_run.specs.Callers.{AllRan, AreLists, AreNew, AreNumbered, CallerRan, told}
 use Rattle.line_run.specs.Filing.{FilerCame}
 use Rattle.line_run.specs.Line.{LineRan}
 use Rattle.line_run.specs.Opening.{LineSeen}

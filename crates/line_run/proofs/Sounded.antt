@@ -1,12 +1,12 @@
 -- What the player of a line comes to.
-use Rattle.std.proofs.Common.{◌≡◌, ◌⊎◌, inl, inr, ℕ, ◌+◌, ◌≤◌, List, [], ◌++◌, Bool, true, false, Result, refl, sym, ap, ◌∙◌, subst, arith}
+use Rattle.std.proofs.Common.{◌≡◌, ◌⊎◌, inl, ℕ, ◌+◌, ◌≤◌, List, [], ◌++◌, true, false, Result, sym, ap, ◌∙◌, subst, arith}
 use Rattle.std.specs.Prelude.{is_err}
 use Rattle.gate_base.specs.Faults.{HasCause, Rose}
-use Rattle.gate_io.specs.Flow.{AppendsPart, Gives}
+use Rattle.gate_io.specs.Flow.{Gives}
 use Rattle.play_machine.specs.declared.call.Call.{Call}
 use Rattle.recorder.specs.declared.tally.PlayTally.{PlayTally}
 use Rattle.recorder.specs.Heads.{Heading, head_text, play_magic}
-use Rattle.recorder.specs.Tallies.{no_plays, play_tally}
+use Rattle.recorder.specs.Tallies.{play_tally}
 use Rattle.slot_ring.specs.Seen.{PassView, Grown}
 use Rattle.player.specs.Beats.{Playing, Starts, standing}
 use Rattle.player.specs.Whole.{PlayerGave, PlayerTold, items_in}

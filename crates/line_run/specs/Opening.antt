@@ -1,5 +1,5 @@
 -- A line before its callers run.
-use Rattle.std.specs.Prelude.{◌≡◌, ℕ, ◌-◌, ◌^◌, ◌≤◌}
+use Rattle.std.specs.Prelude.{ℕ, ◌-◌, ◌^◌, ◌≤◌}
 use Rattle.recorder.specs.Heads.{Heading}
 use Rattle.line_run.specs.declared.options.LineOptions.{LineOptions}
 

@@ -1,6 +1,6 @@
-use Rattle.std.proofs.Common.{rules, ◌≡◌, refl, sym, ap, ◌∙◌}
+use Rattle.std.proofs.Common.{rules, ◌≡◌, refl, ap, ◌∙◌}
 use Rattle.slot_ring.specs.Seen.{PassView}
-use Rattle.line_run.specs.Seen.{LinkSeen, SinkSeen, link_seen, sink_seen}
+use Rattle.line_run.specs.Seen.{link_seen, sink_seen}
 use Rattle.line_run.proofs.CameSo.{went_on}
 use Rattle.line_run.proofs.caller.run_one.Goals as goal
 

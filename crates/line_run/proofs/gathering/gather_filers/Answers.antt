@@ -1,4 +1,4 @@
-use Rattle.std.proofs.Common.{rules, ◌≡◌, ◌++◌, Option, ap, ◌∙◌}
+use Rattle.std.proofs.Common.{rules, ◌++◌, Option, ap, ◌∙◌}
 use Rattle.std.specs.Prelude.{option_to_list}
 use Rattle.line_run.specs.declared.caller.Caller.{Caller}
 use Rattle.line_run.proofs.Leaving.{front_numbered, last_has, one_more, still_room}

@@ -1,5 +1,5 @@
 use Rattle.std.proofs.Common.{ℕ, sym, subst}
-use Rattle.line_run.specs.Callers.{AreLists, Lists}
+use Rattle.line_run.specs.Callers.{AreLists}
 use Rattle.line_run.proofs.Closing.{all_gathered, are_lists, put_last}
 use Rattle.line_run.proofs.gathering.leave_and_close.Goals as goal
 

@@ -1,5 +1,4 @@
-use Rattle.std.proofs.Common.{◌≡◌, ◌+◌, ℕ, List, length, sym, ap, ◌∙◌, subst}
-use Rattle.line_run.specs.Line.{LineRan}
+use Rattle.std.proofs.Common.{◌≡◌, ◌+◌, ℕ, sym, ap, ◌∙◌}
 use Rattle.line_run.specs.Opening.{LineSeen}
 use Rattle.line_run.specs.Seen.{clock_seen, link_seen, player_seen, sink_seen, source_seen}
 use Rattle.line_run.proofs.Completed.{completed}
