@@ -17,3 +17,4 @@ pub mod VerifyEnds
 pub mod OrderLines
 pub mod JournalNames
 pub mod LinkLines
+pub mod ServeCauses
