@@ -147,7 +147,6 @@ rose-at f xs xs' i x x' e e' rose =
 
 module _ {P J : Type 0} (l : LineSeen) (link : P → LinkSeen) (sink : J → SinkSeen) (ps : List P) (js : List J) (ps' : List P) (js' : List J) (a b : PlayerSeen) (p : PlayerEnd) (played : PlayTally) (fs : List Told) (left : LeftView)
     (ran : LineRan l link sink ps js ps' js' a b p played fs left) (many : length ps ≡ l.filers) (more : length js ≡ 1 + l.filers) where
-
   same-told : (t u : Told) → some t ≡ some u → t.0 ≡ u.0
   same-told t u e = ap (λ (x : Told). x.0) (some-injective t u e)
 

@@ -36,7 +36,6 @@ use std::io::Print;
 use std::net::Net;
 use std::process::ExitCode;
 use std::sync::Wait;
-use std::thread::Threads;
 use std::time::Clock;
 
 fn code_of(status: Status) -> ExitCode {
@@ -78,6 +77,30 @@ fn any_port(there: &str) -> &'static str {
     }
 }
 
+// What a line of serve runs over.
+#[derive(Drop)]
+struct Gateway<'a, R: Net + Clock + Files + Print> {
+    links: Vec<UdpLink<'a, R>>,
+    reply: UdpLink<'a, R>,
+    microphone: OsSource<R>,
+    speaker: OsSink<'a, R>,
+    journals: Vec<OsSink<'a, R>>,
+    notes: OsSink<'a, R>,
+    clock: OsClock<'a, R>,
+}
+
+// A socket for each address that is listened on.
+fn bind_all<'a, R: Net + Clock + Wait + Sync + AllocGlobal>(
+    rt: &'a R,
+    places: &Places,
+) -> Result<Vec<UdpLink<'a, R>>, OutOfMemory> {
+    let mut links = Vec::new(rt.alloc());
+    for here in &places.links {
+        links.push(UdpLink::bind(rt, rt.alloc(), here.as_str(), "", places.ticks)?)?;
+    }
+    Ok(links)
+}
+
 // The journals of a line, the player's first.
 fn create_all<'a, R: Files + Print + Sync + AllocGlobal>(
     rt: &'a R,
@@ -90,39 +113,21 @@ fn create_all<'a, R: Files + Print + Sync + AllocGlobal>(
     Ok(sinks)
 }
 
-// Runs the gateway over the sockets and the files that the words name.
-fn run_gateway<R: Threads + Wait + Net + Clock + Files + Print + Sync + AllocGlobal>(
-    rt: &R,
-    words: &Vec<String>,
+// Opens the sockets and the files that a line of serve names. The clock starts last.
+fn open_gateway<'a, R: Net + Clock + Wait + Files + Print + Sync + AllocGlobal>(
+    rt: &'a R,
     places: &Places,
-) -> Result<Status, OutOfMemory>
-where
-    R::File: Send,
-{
-    let mut links = Vec::new(rt.alloc());
-    for here in &places.links {
-        links.push(UdpLink::bind(rt, rt.alloc(), here.as_str(), "", places.ticks)?)?;
-    }
+) -> Result<Gateway<'a, R>, OutOfMemory> {
     let there = places.reply.as_str();
-    let mut reply = UdpLink::bind(rt, rt.alloc(), any_port(there), there, places.ticks)?;
-    let mut microphone = OsSource::open(rt, rt.alloc(), places.microphone.as_str())?;
-    let mut speaker = OsSink::create(rt, rt.alloc(), places.speaker.as_str())?;
-    let mut journals = create_all(rt, &places.journals)?;
-    let mut notes = OsSink::standard(rt);
-    let mut clock = OsClock::new(rt, places.ticks);
-    let served = run_serve(
-        rt,
-        rt.alloc(),
-        words,
-        &mut links,
-        &mut reply,
-        &mut microphone,
-        &mut speaker,
-        &mut journals,
-        &mut notes,
-        &mut clock,
-    );
-    Ok(served.status)
+    Ok(Gateway {
+        links: bind_all(rt, places)?,
+        reply: UdpLink::bind(rt, rt.alloc(), any_port(there), there, places.ticks)?,
+        microphone: OsSource::open(rt, rt.alloc(), places.microphone.as_str())?,
+        speaker: OsSink::create(rt, rt.alloc(), places.speaker.as_str())?,
+        journals: create_all(rt, &places.journals)?,
+        notes: OsSink::standard(rt),
+        clock: OsClock::new(rt, places.ticks),
+    })
 }
 
 // Words that are no line: nothing is opened, and the notes say so.
@@ -137,21 +142,42 @@ fn main(rt: HostRuntime) -> ExitCode {
     let Ok(words) = words_of(&rt) else {
         return code_of(Status::OutOfMemory);
     };
-    match addresses(rt.alloc(), &words) {
-        Ok(places) => {
-            let ran = if places.serve {
-                run_gateway(&rt, &words, &places)
-            } else {
-                run_files(&rt, &words, &places)
-            };
-            match ran {
-                Ok(status) => code_of(status),
-                Err(OutOfMemory) => code_of(Status::OutOfMemory),
-            }
-        }
-        Err(Status::Usage) => code_of(refuse(&rt, &words)),
-        Err(status) => code_of(status),
+    let places = match addresses(rt.alloc(), &words) {
+        Ok(places) => places,
+        Err(Status::Usage) => return code_of(refuse(&rt, &words)),
+        Err(status) => return code_of(status),
+    };
+    if !places.serve {
+        return match run_files(&rt, &words, &places) {
+            Ok(status) => code_of(status),
+            Err(OutOfMemory) => code_of(Status::OutOfMemory),
+        };
     }
+    let Ok(gateway) = open_gateway(&rt, &places) else {
+        return code_of(Status::OutOfMemory);
+    };
+    let Gateway {
+        mut links,
+        mut reply,
+        mut microphone,
+        mut speaker,
+        mut journals,
+        mut notes,
+        mut clock,
+    } = gateway;
+    let served = run_serve(
+        &rt,
+        rt.alloc(),
+        &words,
+        &mut links,
+        &mut reply,
+        &mut microphone,
+        &mut speaker,
+        &mut journals,
+        &mut notes,
+        &mut clock,
+    );
+    code_of(served.status)
 }
 
 #[cfg(test)]

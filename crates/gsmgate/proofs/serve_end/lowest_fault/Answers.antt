@@ -1,4 +1,4 @@
-use Rattle.std.proofs.Common.{◌≡◌, ◌+◌, Some, None, drop, sym, ap, ◌∙◌, rules}
+use Rattle.std.proofs.Common.{sym, ◌∙◌}
 use Rattle.gsmgate.specs.Serve.{lowest_fault}
 use Rattle.gsmgate.proofs.LinkLines.{found-fault, no-fault}
 use Rattle.gsmgate.proofs.serve_end.lowest_fault.Goals as goal
