@@ -77,7 +77,7 @@ impl<'a> Link for GatedLink<'a> {
     ghost faults = { λ s. 0 };
 
     fn receive(&mut self, into: &mut [u8; 2048]) -> Result<Received, Failed> {
-        if self.given == 2 || self.looks == 0 {
+        if self.given >= 2 || self.looks == 0 {
             self.ended = true;
             return Ok(Received::Ended);
         }
@@ -114,7 +114,7 @@ impl<'a> TickClock for WaitingClock<'a> {
     ghost ended = { λ s. s.ended };
 
     fn wait(&mut self) -> TickNext {
-        if self.given == 2 {
+        if self.given >= 2 {
             self.ended = true;
             return TickNext::Ended;
         }
@@ -146,7 +146,7 @@ impl<'a> Link for MeetingLink<'a> {
     ghost faults = { λ s. 0 };
 
     fn receive(&mut self, _into: &mut [u8; 2048]) -> Result<Received, Failed> {
-        if self.receives == 2 {
+        if self.receives >= 2 {
             self.ended = true;
             return Ok(Received::Ended);
         }
@@ -216,7 +216,10 @@ fn a_datagram_waits_for_a_tick_and_a_tick_for_a_datagram(rt: HostRuntime) -> Res
     let (status, saw) = runs(&rt, rt.alloc(), &flags, &mut links, &mut gated(&flags))?;
     assert_eq!(rt; status, Status::Done);
     assert!(rt; saw);
-    assert_eq!(rt; links[0].given, 2);
+    let Some(link) = links.pop() else {
+        return Err(Fail::from("no link"));
+    };
+    assert_eq!(rt; link.given, 2);
     Ok(())
 }
 
@@ -236,6 +239,9 @@ fn a_receive_and_a_wait_meet(rt: HostRuntime) -> Result<(), Fail> {
     links.push(meeting(&flags))?;
     let (status, saw) = runs(&rt, rt.alloc(), &flags, &mut links, &mut meeting(&flags))?;
     assert_eq!(rt; status, Status::Done);
-    assert!(rt; saw && links[0].saw);
+    let Some(link) = links.pop() else {
+        return Err(Fail::from("no link"));
+    };
+    assert!(rt; saw && link.saw);
     Ok(())
 }
