@@ -12,9 +12,9 @@ pub enum Command {
     Encode,
     /// A player's journal becomes the speech that it played, by a voice of this seed.
     Render { seed: [u8; 32] },
-    /// A player's journal and the filers' are replayed, and the findings are written.
+    /// The journals of one line are judged, and the order of a legal history is written.
     Verify,
-    /// A script of `count` events with `filers` filers is made from a seed.
+    /// A script of `count` rounds, a File and a Tick each, for `filers` filers is made from a seed.
     Make { seed: u64, count: u32, filers: u32 },
 }
 
@@ -29,7 +29,7 @@ pub struct ServeOptions {
     pub seed: [u8; 32],
     /// Ticks of 20 ms that are played: 1 to 16000000.
     pub ticks: u64,
-    /// Ticks between two reports: 1 to 65535.
+    /// Valid packets of a filer between two reports: 1 to 65535.
     pub report: u32,
     /// The source of what is sent.
     pub ssrc: u32,
