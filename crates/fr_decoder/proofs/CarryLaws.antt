@@ -5,13 +5,16 @@ use Rattle.std.proofs.lemmas.List.{get_or_append_left, get_or-append_right}
 use Rattle.fixed_arith.specs.Signal.{at, past}
 use Rattle.frame_codec.specs.Frame.{Fields}
 use Rattle.lar_filter.specs.Ratios.{ratios_of}
+use Rattle.lar_filter.specs.Lattice.{StepsTo}
+use Rattle.lar_filter.specs.Trace.{Traces}
+use Rattle.lar_filter.specs.Parts.{IsFed, frame_coefficient, PassesFrame}
+use Rattle.lar_filter.proofs.PartLaws.{IsFed-same, IsFed-append, past_before}
 use Rattle.rpe_ltp.specs.LongTerm.{Remembers}
 use Rattle.fr_decoder.specs.Deemphasis.{emphasis_after, output_of}
 use Rattle.fr_decoder.specs.Speech.{sub_frames, ratio, coefficient}
-use Rattle.fr_decoder.specs.Decoding.{Kept, IsFed, frame_coefficient, PassesFrame, Carries, Decodes}
+use Rattle.fr_decoder.specs.Decoding.{Kept, Carries, Decodes}
 use Rattle.fr_decoder.proofs.DeemphasisLaws.{emphasis_after-none, emphasis_after-front, emphasis_after-join}
-use Rattle.fr_decoder.proofs.FedLaws.{IsFed-same, IsFed-append}
-use Rattle.fr_decoder.proofs.FrameLaws.{past_before, sub_frames-more, coefficient-front, coefficient-last, ratio-next}
+use Rattle.fr_decoder.proofs.FrameLaws.{sub_frames-more, coefficient-front, coefficient-last, ratio-next}
 use Rattle.fr_decoder.proofs.SpeechLaws.{IsSpeech-from_trace}
 
 fed-more : (frames : List Fields) (frame : Fields) (before residual more : List ℤ) (inputs ins : List (List ℤ × ℤ)) → length residual ≡ 160 * length frames → length more ≡ 160
@@ -48,7 +51,7 @@ output-more filtered ys samples out last n size count kept old new t inside = el
 pub Decodes-more : (frames : List Fields) (frame : Fields) (samples : List ℤ) (old next : Kept) (carried : Carries frames samples old) (more ys out : List ℤ)
     → length more ≡ 160 → length ys ≡ 160 → length out ≡ 160
     → Remembers (sub_frames frames ++ frame.sub) (carried.residual ++ more) next.long_term
-    → PassesFrame old.ratios (ratios_of frame.larc) more (replicate 8 (pos 0)) carried.inputs (carried.filtered ++ ys) next.filter
+    → PassesFrame StepsTo Traces old.ratios (ratios_of frame.larc) more (replicate 8 (pos 0)) carried.inputs (carried.filtered ++ ys) next.filter
     → next.ratios ≡ ratios_of frame.larc → next.emphasis ≡ emphasis_after old.emphasis ys 160
     → ((k : ℕ) → k < 160 → at out k ≡ output_of (emphasis_after old.emphasis ys (k + 1)))
     → Decodes (frames ++ frame ∷ []) (samples ++ out) next

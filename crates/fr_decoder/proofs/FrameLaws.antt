@@ -10,13 +10,8 @@ use Rattle.lar_filter.specs.Ratios.{ratios_of}
 use Rattle.std.proofs.Common.{append_assoc}
 use Rattle.rpe_ltp.specs.LongTerm.{Memory, Remembers}
 use Rattle.fr_decoder.specs.Speech.{frame_at, sub_frames, ratio, coefficient}
-use Rattle.fr_decoder.specs.Decoding.{frame_coefficient}
-
-pub past_reached : (f : ℕ → ℤ) (t n : ℕ) → n ≤ t → past f t n ≡ f (t - n)
-past_reached f t n h = grind (arith, nat_tests)
-
-pub past_before : (f : ℕ → ℤ) (t n : ℕ) → t < n → past f t n ≡ pos 0
-past_before f t n h = grind (arith, nat_tests)
+use Rattle.lar_filter.specs.Parts.{frame_coefficient}
+use Rattle.lar_filter.proofs.PartLaws.{past_reached, past_before}
 
 pub sub_frames-more : (frames : List Fields) (frame : Fields) → sub_frames (frames ++ frame ∷ []) ≡ sub_frames frames ++ frame.sub
 sub_frames-more frames frame = flat_map-append (λ (f : Fields). f.sub) frames (frame ∷ []) ∙ ap (λ (subs : List SubParams). sub_frames frames ++ subs) (append-nil frame.sub)

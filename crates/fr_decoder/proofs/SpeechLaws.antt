@@ -8,9 +8,9 @@ use Rattle.lar_filter.specs.Trace.{since, Traces, coefficients_at}
 use Rattle.rpe_ltp.specs.LongTerm.{IsLongTerm}
 use Rattle.fr_decoder.specs.Deemphasis.{emphasis_next, emphasis_after, output_of}
 use Rattle.fr_decoder.specs.Speech.{sub_frames, coefficient, IsSpeech}
-use Rattle.fr_decoder.specs.Decoding.{IsFed}
+use Rattle.lar_filter.specs.Parts.{IsFed}
 use Rattle.fr_decoder.proofs.DeemphasisLaws.{emphasis_after-none, emphasis_after-more}
-use Rattle.fr_decoder.proofs.FrameLaws.{past_reached, past_before}
+use Rattle.lar_filter.proofs.PartLaws.{past_reached, past_before}
 
 -- from rest, the value before is 0 before time 0
 since_rest : (f : ℕ → ℤ) (i t : ℕ) → i < 8 → since (at (replicate 8 (pos 0)) i) f t ≡ past f t 1

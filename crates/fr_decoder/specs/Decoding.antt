@@ -2,13 +2,12 @@
 use Rattle.std.specs.Prelude.{◌≡◌, ℕ, ◌+◌, ◌*◌, ◌<◌, ℤ, pos, List, ◌++◌, length, replicate}
 use Rattle.fixed_arith.specs.Signal.{at, past}
 use Rattle.frame_codec.specs.Frame.{Fields}
-use Rattle.lar_filter.specs.Coefficients.{between, coefficient_of}
+use Rattle.lar_filter.specs.Parts.{IsFed}
 use Rattle.lar_filter.specs.Runs.{Runs}
 use Rattle.lar_filter.specs.Lattice.{StepsTo}
-use Rattle.lar_filter.specs.Trace.{Traces, coefficients_at, sample_at}
 use Rattle.rpe_ltp.specs.LongTerm.{Memory, Remembers}
 use Rattle.fr_decoder.specs.Deemphasis.{emphasis_after, output_of}
-use Rattle.fr_decoder.specs.Speech.{sub_frames, ratio, part_of, coefficient, IsSpeech}
+use Rattle.fr_decoder.specs.Speech.{sub_frames, ratio, coefficient, IsSpeech}
 
 -- what is kept between frames: of the long-term part, the ratios of the last frame, of the filter, and the last de-emphasised value
 pub record Kept : Type 0 where
@@ -16,23 +15,6 @@ pub record Kept : Type 0 where
   pub ratios : List ℤ
   pub filter : List ℤ
   pub emphasis : ℤ
-
--- inputs of the filter are these values, with the coefficients rp(i, t) of the times from a first one on
-pub record IsFed (rp : ℕ → ℕ → ℤ) (first : ℕ) (values : List ℤ) (inputs : List (List ℤ × ℤ)) : Type 0 where
-  pub count : length inputs ≡ length values
-  pub coefficients : (i k : ℕ) → i < 8 → k < length values → at (coefficients_at inputs k) i ≡ rp i (first + k)
-  pub samples : (k : ℕ) → k < length values → sample_at inputs k ≡ at values k
-
--- the coefficient i + 1 at the k-th sample of a frame, from the ratios of the frame before and of this one
-abbrev pub frame_coefficient : List ℤ → List ℤ → ℕ → ℕ → ℤ
-frame_coefficient before now i k = coefficient_of (between (part_of k) (at before i) (at now i))
-
--- the values of a frame went through the filter behind the inputs, and all that went through solves the equations
-pub record PassesFrame (before now values start : List ℤ) (inputs : List (List ℤ × ℤ)) (ys after : List ℤ) : Type 0 where
-  pub more : List (List ℤ × ℤ)
-  pub fed : IsFed (frame_coefficient before now) 0 values more
-  pub run : Runs StepsTo start (inputs ++ more) ys after
-  pub equations : Traces start (inputs ++ more) ys after
 
 -- Behind the frames, values of the long-term part went through the filter from rest, and were de-emphasised; the last of each are kept.
 pub record Carries (frames : List Fields) (samples : List ℤ) (kept : Kept) : Type 0 where

@@ -7,6 +7,7 @@ use Rattle.frame_codec.specs.declared.params.SubParams.{SubParams}
 use Rattle.frame_codec.specs.Frame.{Fields}
 use Rattle.lar_filter.specs.Ratios.{ratios_of}
 use Rattle.lar_filter.specs.Coefficients.{between, coefficient_of}
+use Rattle.lar_filter.specs.Parts.{part_of}
 use Rattle.rpe_ltp.specs.LongTerm.{residual_at, gain_at, lag_at}
 use Rattle.fr_decoder.specs.Deemphasis.{output_of}
 
@@ -21,10 +22,6 @@ sub_frames frames = flat_map (λ frame. frame.sub) frames
 -- the log area ratio i + 1 of the f-th frame (LARpp)
 unfoldable pub ratio : List Fields → ℕ → ℕ → ℤ
 ratio frames i f = at (ratios_of (frame_at frames f).larc) i
-
--- the part of a frame in which its k-th sample is
-unfoldable pub part_of : ℕ → ℕ
-part_of k = if nat_lt k 13 then 0 else if nat_lt k 27 then 1 else if nat_lt k 40 then 2 else 3
 
 -- the reflection coefficient i + 1 at time t (rp): of the ratio between that of the frame before, which is 0 before the first, and that of this frame (LARp)
 unfoldable pub coefficient : List Fields → ℕ → ℕ → ℤ

@@ -6,7 +6,6 @@ ghost use Rattle.rpe_ltp.specs.LongTerm.{Remembers};
 ghost use Rattle.fr_decoder.specs.Decoding.{Decodes};
 
 use crate::deemphasis::deemphasise;
-use crate::short_term::filter_frame;
 use frame_codec::{Params, SubParams};
 use lar_filter::{Synthesis, decode_lars};
 use rpe_ltp::LongTerm;
@@ -51,7 +50,7 @@ impl Decoder {
     {
         fill_residual(&mut self.long_term, params.sub(), out);
         let ratios = decode_lars(params.larc());
-        filter_frame(&mut self.filter, &self.ratios, &ratios, out);
+        self.filter.run_frame(&self.ratios, &ratios, out);
         self.ratios = ratios;
         self.emphasis = deemphasise(self.emphasis, out);
     }

@@ -3,7 +3,6 @@
 
 mod decoder;
 mod deemphasis;
-mod short_term;
 
 pub use decoder::Decoder;
 

@@ -5,13 +5,16 @@ use Rattle.fixed_arith.specs.Word.{shift_word_left}
 use Rattle.fixed_arith.specs.Sums.{greatest_of}
 use Rattle.fixed_arith.specs.Signal.{at, past}
 use Rattle.lar_filter.specs.Ratios.{ratios_of}
+use Rattle.lar_filter.specs.Rising.{RisesTo}
+use Rattle.lar_filter.specs.RisingTrace.{RisesOver}
+use Rattle.lar_filter.specs.Parts.{IsFed, frame_coefficient, PassesFrame}
+use Rattle.lar_filter.proofs.PartLaws.{IsFed-same, IsFed-append, past_before}
 use Rattle.lar_filter.specs.Autocorrelation.{scale_of, scaled_word, scaled, onward}
 use Rattle.fr_encoder.specs.Preprocessing.{Offset, at_rest, offset_after, preprocessed}
 use Rattle.fr_encoder.specs.ShortTerm.{piece_at, codes_of_piece, codes_at, ratio, coefficient}
-use Rattle.fr_encoder.specs.Fronting.{Kept, IsFed, frame_coefficient, PassesFrame, Carries, Fronts}
+use Rattle.fr_encoder.specs.Fronting.{Kept, Carries, Fronts}
 use Rattle.fr_encoder.proofs.PreprocessingLaws.{offset_after-none, offset_after-join, preprocessed-append}
-use Rattle.fr_encoder.proofs.FedLaws.{IsFed-same, IsFed-append}
-use Rattle.fr_encoder.proofs.PieceLaws.{past_before, coded-more, onward-more, coefficient-front, coefficient-last, ratio-next}
+use Rattle.fr_encoder.proofs.PieceLaws.{coded-more, onward-more, coefficient-front, coefficient-last, ratio-next}
 use Rattle.fr_encoder.proofs.ShortTermLaws.{IsShortTerm-from_trace}
 
 fed-more : (codes : List (List ℕ)) (code : List ℕ) (before values more : List ℤ) (inputs ins : List (List ℤ × ℤ)) → length values ≡ 160 * length codes → length more ≡ 160
@@ -37,7 +40,7 @@ pub Fronts-more : (samples : List ℤ) (codes : List (List ℕ)) (residual : Lis
     → length piece ≡ 160 → length ys ≡ 160 → length out ≡ 160
     → next.offset ≡ offset_after old.offset piece 160 → ((k : ℕ) → k < 160 → at ys k ≡ preprocessed old.offset piece k)
     → code ≡ codes_of_piece ys
-    → PassesFrame old.ratios (ratios_of code) (onward ys) (replicate 8 (pos 0)) carried.inputs (residual ++ out) next.filter
+    → PassesFrame RisesTo RisesOver old.ratios (ratios_of code) (onward ys) (replicate 8 (pos 0)) carried.inputs (residual ++ out) next.filter
     → next.ratios ≡ ratios_of code
     → Fronts (samples ++ piece) (codes ++ code ∷ []) (residual ++ out) next
 Fronts-more samples codes residual old next carried piece ys code out piece_size ys_size out_size offset preprocessed_is code_is passes ratios =

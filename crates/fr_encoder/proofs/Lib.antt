@@ -1,6 +1,5 @@
 pub mod OffsetLaws
 pub mod PreprocessingLaws
-pub mod FedLaws
 pub mod PieceLaws
 pub mod ShortTermLaws
 pub mod FrontLaws

@@ -10,13 +10,8 @@ use Rattle.fixed_arith.specs.Signal.{at, past}
 use Rattle.lar_filter.specs.Ratios.{ratios_of}
 use Rattle.lar_filter.specs.Autocorrelation.{onward}
 use Rattle.fr_encoder.specs.ShortTerm.{piece_at, codes_of_piece, codes_at, ratio, coefficient}
-use Rattle.fr_encoder.specs.Fronting.{frame_coefficient}
-
-pub past_reached : (f : ℕ → ℤ) (t n : ℕ) → n ≤ t → past f t n ≡ f (t - n)
-past_reached f t n h = grind (arith, nat_tests)
-
-pub past_before : (f : ℕ → ℤ) (t n : ℕ) → t < n → past f t n ≡ pos 0
-past_before f t n h = grind (arith, nat_tests)
+use Rattle.lar_filter.specs.Parts.{frame_coefficient}
+use Rattle.lar_filter.proofs.PartLaws.{past_reached, past_before}
 
 pub piece_at-front : (values more : List ℤ) (f n : ℕ) → length values ≡ 160 * n → f < n → piece_at (values ++ more) f ≡ piece_at values f
 unfolding piece_at

@@ -1,37 +1,18 @@
 -- What the front keeps between pieces, and how it stands behind a whole list of them.
 use Rattle.std.specs.Prelude.{◌≡◌, ℕ, ◌+◌, ◌*◌, ◌/◌, ◌%◌, ◌<◌, ℤ, pos, List, ◌++◌, length, replicate}
 use Rattle.fixed_arith.specs.Signal.{at, past}
-use Rattle.lar_filter.specs.Coefficients.{between, coefficient_of}
 use Rattle.lar_filter.specs.Autocorrelation.{onward}
 use Rattle.lar_filter.specs.Runs.{Runs}
 use Rattle.lar_filter.specs.Rising.{RisesTo}
-use Rattle.lar_filter.specs.RisingTrace.{RisesOver}
-use Rattle.lar_filter.specs.Trace.{coefficients_at, sample_at}
+use Rattle.lar_filter.specs.Parts.{IsFed}
 use Rattle.fr_encoder.specs.Preprocessing.{Offset, at_rest, offset_after, preprocessed}
-use Rattle.fr_encoder.specs.ShortTerm.{piece_at, codes_of_piece, codes_at, ratio, part_of, coefficient, IsShortTerm}
+use Rattle.fr_encoder.specs.ShortTerm.{piece_at, codes_of_piece, codes_at, ratio, coefficient, IsShortTerm}
 
 -- what is kept between pieces: of the preprocessing, the ratios of the last piece, and of the filter
 pub record Kept : Type 0 where
   pub offset : Offset
   pub ratios : List ℤ
   pub filter : List ℤ
-
--- inputs of the filter are these values, with the coefficients rp(i, t) of the times from a first one on
-pub record IsFed (rp : ℕ → ℕ → ℤ) (first : ℕ) (values : List ℤ) (inputs : List (List ℤ × ℤ)) : Type 0 where
-  pub count : length inputs ≡ length values
-  pub coefficients : (i k : ℕ) → i < 8 → k < length values → at (coefficients_at inputs k) i ≡ rp i (first + k)
-  pub samples : (k : ℕ) → k < length values → sample_at inputs k ≡ at values k
-
--- the coefficient i + 1 at the k-th sample of a piece, from the ratios of the piece before and of this one
-abbrev pub frame_coefficient : List ℤ → List ℤ → ℕ → ℕ → ℤ
-frame_coefficient before now i k = coefficient_of (between (part_of k) (at before i) (at now i))
-
--- the values of a piece went through the filter behind the inputs, and all that went through solves the equations
-pub record PassesFrame (before now values start : List ℤ) (inputs : List (List ℤ × ℤ)) (ys after : List ℤ) : Type 0 where
-  pub more : List (List ℤ × ℤ)
-  pub fed : IsFed (frame_coefficient before now) 0 values more
-  pub run : Runs RisesTo start (inputs ++ more) ys after
-  pub equations : RisesOver start (inputs ++ more) ys after
 
 -- Behind the samples, each piece was preprocessed, coded and scaled, and went through the filter from rest; the last of each are kept.
 pub record Carries (samples : List ℤ) (codes : List (List ℕ)) (residual : List ℤ) (kept : Kept) : Type 0 where

@@ -5,6 +5,7 @@ use Rattle.fixed_arith.specs.Word.{add_words, mult_r_words}
 use Rattle.fixed_arith.specs.Signal.{at, past}
 use Rattle.lar_filter.specs.Ratios.{ratios_of}
 use Rattle.lar_filter.specs.Coefficients.{between, coefficient_of}
+use Rattle.lar_filter.specs.Parts.{part_of}
 use Rattle.lar_filter.specs.Autocorrelation.{scaled, correlation, onward}
 use Rattle.lar_filter.specs.Reflections.{reflections}
 use Rattle.lar_filter.specs.Quantising.{codes_from}
@@ -25,10 +26,6 @@ codes_at codes f = get_or codes f []
 -- the log area ratio i + 1 that the codes of the f-th piece stand for (LARpp)
 unfoldable pub ratio : List (List ℕ) → ℕ → ℕ → ℤ
 ratio codes i f = at (ratios_of (codes_at codes f)) i
-
--- the part of a piece in which its k-th sample is
-unfoldable pub part_of : ℕ → ℕ
-part_of k = if nat_lt k 13 then 0 else if nat_lt k 27 then 1 else if nat_lt k 40 then 2 else 3
 
 -- the reflection coefficient i + 1 at time t (rp): of the ratio between that of the piece before, which is 0 before the first, and that of this piece (LARp)
 unfoldable pub coefficient : List (List ℕ) → ℕ → ℕ → ℤ

@@ -2,8 +2,8 @@
 ghost use Rattle.std.specs.Prelude.{◌≡◌, ◌<◌, ◌∷◌, ◌++◌, [], ℕ, ℤ, List, slice_index};
 ghost use Rattle.fr_encoder.specs.Fronting.{Fronts};
 
+use crate::piece_codes::code_ratios;
 use crate::preprocessing::Preprocessing;
-use crate::short_term::{code_ratios, filter_piece};
 use lar_filter::{Analysis, decode_lars};
 use std::marker::Model;
 
@@ -50,7 +50,7 @@ impl Front {
         self.offset.run(&mut values);
         let larc = code_ratios(&mut values);
         let ratios = decode_lars(&larc);
-        filter_piece(&mut self.filter, &self.ratios, &ratios, &mut values);
+        self.filter.run_frame(&self.ratios, &ratios, &mut values);
         self.ratios = ratios;
         (larc, values)
     }

@@ -4,8 +4,8 @@
 mod encoder;
 mod excitation;
 mod front;
+mod piece_codes;
 mod preprocessing;
-mod short_term;
 
 pub use encoder::Encoder;
 pub use front::Front;

@@ -6,3 +6,4 @@ pub mod SchurLaws
 pub mod LimitLaws
 pub mod RisingLaws
 pub mod RisingTraceLaws
+pub mod PartLaws

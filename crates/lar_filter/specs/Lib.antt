@@ -8,3 +8,4 @@ pub mod Reflections
 pub mod Quantising
 pub mod Rising
 pub mod RisingTrace
+pub mod Parts

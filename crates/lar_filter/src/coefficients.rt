@@ -2,8 +2,16 @@
 ghost use Rattle.std.specs.Prelude.{◌≡◌, ℕ, ◌≤◌, ◌<◌, pos, ◌≤ℤ◌};
 ghost use Rattle.fixed_arith.specs.Signal.{at};
 ghost use Rattle.lar_filter.specs.Coefficients.{between, steepened, coefficient_of};
+ghost use Rattle.lar_filter.specs.Parts.{IsPart};
 
 use fixed_arith::{abs_word, add};
+
+// How many samples the first three parts of a frame have.
+pub(crate) const FIRST: usize = 13;
+
+pub(crate) const SECOND: usize = 14;
+
+pub(crate) const THIRD: usize = 13;
 
 /// The ratios (`LARp`) of a part of a frame, from those of the frame before and of this one (GSM 06.10 section 5.2.9.1).
 /// Part 0 is the frame's samples 0 to 12, part 1 is 13 to 26, part 2 is 27 to 39, and part 3 is 40 to 159.
@@ -44,6 +52,14 @@ pub fn reflection_of(lar: &[i16; 8]) -> [i16; 8]
         coefficients[i] = reflection(lar[i]);
     }
     coefficients
+}
+
+/// The reflection coefficients of a part of a frame, from the ratios of the frame before and of this one.
+pub(crate) fn part_coefficients(before: &[i16; 8], now: &[i16; 8], part: u8) -> [i16; 8]
+    requires { part ≤ 3 }
+    ensures { IsPart before.now now.now part result }
+{
+    reflection_of(&interpolate(before, now, part))
 }
 
 /// The coefficient of a ratio.

@@ -1,10 +1,12 @@
 // The short-term synthesis filter: GSM 06.10 section 5.3.4.
 ghost use Rattle.std.specs.Prelude.{◌≡◌, ℤ, pos, List, replicate, ◌++◌};
 ghost use Rattle.fixed_arith.specs.Word.{add_words, sub_words, mult_r_words};
+ghost use Rattle.lar_filter.specs.Parts.{PassesFrame};
 ghost use Rattle.lar_filter.specs.Runs.{Runs, inputs_of};
 ghost use Rattle.lar_filter.specs.Lattice.{StepsTo};
 ghost use Rattle.lar_filter.specs.Trace.{Traces};
 
+use crate::coefficients::{FIRST, SECOND, THIRD, part_coefficients};
 use fixed_arith::{add, mult_r, sub};
 use std::marker::Model;
 
@@ -47,6 +49,22 @@ impl Synthesis {
             *sample = step(rp, &mut v, *sample);
         }
         self.v = v;
+    }
+
+    /// Filters the samples of a frame in place, in its four parts, from the ratios of the frame before and of this one.
+    pub fn run_frame(&mut self, before: &[i16; 8], now: &[i16; 8], samples: &mut [i16; 160])
+
+        // The calls before and this one are one run, which solves the equations in two indices.
+        ensures goes_on { (start : List ℤ) (inputs : List (List ℤ × ℤ)) (ys : List ℤ) → Runs StepsTo start inputs ys self.old
+            → PassesFrame StepsTo Traces before.now now.now samples.old start inputs (ys ++ samples.new) self.new }
+    {
+        let (first, rest) = samples.split_at_mut(FIRST);
+        let (second, rest) = rest.split_at_mut(SECOND);
+        let (third, fourth) = rest.split_at_mut(THIRD);
+        self.run(&part_coefficients(before, now, 0), first);
+        self.run(&part_coefficients(before, now, 1), second);
+        self.run(&part_coefficients(before, now, 2), third);
+        self.run(&part_coefficients(before, now, 3), fourth);
     }
 }
 

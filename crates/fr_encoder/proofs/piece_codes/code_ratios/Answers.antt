@@ -4,7 +4,7 @@ use Rattle.lar_filter.specs.Quantising.{codes_from}
 use Rattle.fixed_arith.specs.Signal.{at}
 use Rattle.fr_encoder.specs.ShortTerm.{codes_of_piece}
 use Rattle.fr_encoder.proofs.ShortTermLaws.{reflections_same}
-use Rattle.fr_encoder.proofs.short_term.code_ratios.Goals as goal
+use Rattle.fr_encoder.proofs.piece_codes.code_ratios.Goals as goal
 
 pub returns-clause-codes : goal.returns-clause-codes
 unfolding codes_of_piece

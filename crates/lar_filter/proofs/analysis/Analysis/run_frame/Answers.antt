@@ -1,6 +1,8 @@
+use Rattle.lar_filter.specs.Rising.{RisesTo}
+use Rattle.lar_filter.specs.RisingTrace.{RisesOver}
 use Rattle.std.proofs.Common.{rules, ◌≡◌, ◌++◌, length}
-use Rattle.fr_encoder.proofs.FedLaws.{PassesFrame-from_parts, pieces_are}
-use Rattle.fr_encoder.proofs.short_term.filter_piece.Goals as goal
+use Rattle.lar_filter.proofs.PartLaws.{PassesFrame-from_parts, pieces_are}
+use Rattle.lar_filter.proofs.analysis.Analysis.run_frame.Goals as goal
 
 pub returns : goal.returns
 returns c =
@@ -15,9 +17,9 @@ returns c =
           let first = c.run.ensures.goes_on start inputs ys run in
           let second = c.run-2.ensures.goes_on start _ _ first in
           let third = c.run-3.ensures.goes_on start _ _ second in
-          PassesFrame-from_parts c.args.before.now c.args.now.now c.coefficients.result c.coefficients-2.result c.coefficients-3.result c.coefficients-4.result c.args.samples.now
+          PassesFrame-from_parts RisesTo RisesOver c.args.before.now c.args.now.now c.part_coefficients.result c.part_coefficients-2.result c.part_coefficients-3.result c.part_coefficients-4.result c.args.samples.now
           c.split_at_mut-first.result.0.now c.split_at_mut-second.result.0.now c.split_at_mut-third.result.0.now c.split_at_mut-third.result.1.now
           start inputs ys c.run.new.samples c.run-2.new.samples c.run-3.new.samples c.run-4.new.samples c.run-4.new.self
-          whole size0 size1 size2 c.coefficients.ensures c.coefficients-2.ensures c.coefficients-3.ensures c.coefficients-4.ensures
+          whole size0 size1 size2 c.part_coefficients.ensures c.part_coefficients-2.ensures c.part_coefficients-3.ensures c.part_coefficients-4.ensures
           (c.run-4.ensures.goes_on start _ _ third) (c.run-4.ensures.equations start _ _ third);
     }

@@ -1,16 +1,12 @@
--- Inputs of the filter, piece by piece.
+-- Inputs of a filter, part by part.
 use Rattle.std.proofs.Common.{◌≡◌, ℕ, ◌+◌, ◌-◌, ◌<◌, ◌≤◌, ℤ, pos, List, [], ◌++◌, length, take, drop, refl, sym, ◌∙◌, ap, arith, length-append, append_assoc, inl, inr}
 use Rattle.std.proofs.lemmas.Bool.{cases_lt}
 use Rattle.std.proofs.lemmas.Bool.Decides.{nat_tests}
 use Rattle.std.proofs.lemmas.List.{get_or_append_left, get_or-append_right, take-append-drop, length-map, get_or-map}
-use Rattle.fixed_arith.specs.Signal.{at}
+use Rattle.fixed_arith.specs.Signal.{at, past}
 use Rattle.lar_filter.specs.Coefficients.{between, coefficient_of}
-use Rattle.lar_filter.specs.Runs.{inputs_of}
-use Rattle.fr_encoder.specs.ShortTerm.{part_of}
-use Rattle.lar_filter.specs.Runs.{Runs}
-use Rattle.lar_filter.specs.Rising.{RisesTo}
-use Rattle.lar_filter.specs.RisingTrace.{RisesOver}
-use Rattle.fr_encoder.specs.Fronting.{IsFed, frame_coefficient, PassesFrame}
+use Rattle.lar_filter.specs.Runs.{Runs, inputs_of}
+use Rattle.lar_filter.specs.Parts.{part_of, IsPart, IsFed, frame_coefficient, PassesFrame}
 
 -- the same coefficients by another count of time
 pub IsFed-same : (rp other : ℕ → ℕ → ℤ) (first from : ℕ) (values : List ℤ) (inputs : List (List ℤ × ℤ)) → IsFed rp first values inputs
@@ -46,7 +42,7 @@ IsFed-append rp first xs ys ins outs front back = record {
 }
 
 -- values that share their coefficients
-pub IsFed-part : (before now rp values : List ℤ) (part first : ℕ) → ((i : ℕ) → i < 8 → at rp i ≡ coefficient_of (between part (at before i) (at now i)))
+pub IsFed-part : (before now rp values : List ℤ) (part first : ℕ) → IsPart before now part rp
     → ((k : ℕ) → k < length values → part_of (first + k) ≡ part) → IsFed (frame_coefficient before now) first values (inputs_of rp values)
 IsFed-part before now rp values part first rp_is part_is =
     let pair : ℤ → List ℤ × ℤ = λ x. (rp, x) in
@@ -58,7 +54,7 @@ IsFed-part before now rp values part first rp_is part_is =
       samples = λ k inside. ap (λ (found : List ℤ × ℤ). found.1) (get_or-map pair values k (pos 0) ([], pos 0) inside);
     }
 
--- where the parts of a piece lie
+-- where the parts of a frame lie
 pub part_of-first : (k : ℕ) → k < 13 → part_of k ≡ 0
 unfolding part_of
 part_of-first k high = grind (arith, nat_tests)
@@ -75,10 +71,6 @@ pub part_of-fourth : (k : ℕ) → 40 ≤ k → part_of k ≡ 3
 unfolding part_of
 part_of-fourth k low = grind (arith, nat_tests)
 
--- the coefficients of a part of a piece
-abbrev pub IsPart : List ℤ → List ℤ → ℕ → List ℤ → Type 0
-IsPart before now part rp = (i : ℕ) → i < 8 → at rp i ≡ coefficient_of (between part (at before i) (at now i))
-
 parts_fed : (before now rp0 rp1 rp2 rp3 x0 x1 x2 x3 : List ℤ) → length x0 ≡ 13 → length x1 ≡ 14 → length x2 ≡ 13
     → IsPart before now 0 rp0 → IsPart before now 1 rp1 → IsPart before now 2 rp2 → IsPart before now 3 rp3
     → IsFed (frame_coefficient before now) 0 (((x0 ++ x1) ++ x2) ++ x3) (((inputs_of rp0 x0 ++ inputs_of rp1 x1) ++ inputs_of rp2 x2) ++ inputs_of rp3 x3)
@@ -93,13 +85,14 @@ parts_fed before now rp0 rp1 rp2 rp3 x0 x1 x2 x3 size0 size1 size2 is0 is1 is2 i
     (IsFed-part before now rp2 x2 2 (0 + length (x0 ++ x1)) is2 (λ k h. part_of-third (0 + length (x0 ++ x1) + k) (omega arith) (omega arith))))
     (IsFed-part before now rp3 x3 3 (0 + length ((x0 ++ x1) ++ x2)) is3 (λ k h. part_of-fourth (0 + length ((x0 ++ x1) ++ x2) + k) (omega arith)))
 
-pub PassesFrame-from_parts : (before now rp0 rp1 rp2 rp3 values x0 x1 x2 x3 start : List ℤ) (inputs : List (List ℤ × ℤ)) (ys y0 y1 y2 y3 after : List ℤ)
+pub PassesFrame-from_parts : (Step : List ℤ → List ℤ → ℤ → ℤ → List ℤ → Type 0) (Solves : List ℤ → List (List ℤ × ℤ) → List ℤ → List ℤ → Type 0)
+    (before now rp0 rp1 rp2 rp3 values x0 x1 x2 x3 start : List ℤ) (inputs : List (List ℤ × ℤ)) (ys y0 y1 y2 y3 after : List ℤ)
     → values ≡ x0 ++ (x1 ++ (x2 ++ x3)) → length x0 ≡ 13 → length x1 ≡ 14 → length x2 ≡ 13
     → IsPart before now 0 rp0 → IsPart before now 1 rp1 → IsPart before now 2 rp2 → IsPart before now 3 rp3
-    → Runs RisesTo start ((((inputs ++ inputs_of rp0 x0) ++ inputs_of rp1 x1) ++ inputs_of rp2 x2) ++ inputs_of rp3 x3) ((((ys ++ y0) ++ y1) ++ y2) ++ y3) after
-    → RisesOver start ((((inputs ++ inputs_of rp0 x0) ++ inputs_of rp1 x1) ++ inputs_of rp2 x2) ++ inputs_of rp3 x3) ((((ys ++ y0) ++ y1) ++ y2) ++ y3) after
-    → PassesFrame before now values start inputs (ys ++ (y0 ++ (y1 ++ (y2 ++ y3)))) after
-PassesFrame-from_parts before now rp0 rp1 rp2 rp3 values x0 x1 x2 x3 start inputs ys y0 y1 y2 y3 after whole size0 size1 size2 is0 is1 is2 is3 run equations =
+    → Runs Step start ((((inputs ++ inputs_of rp0 x0) ++ inputs_of rp1 x1) ++ inputs_of rp2 x2) ++ inputs_of rp3 x3) ((((ys ++ y0) ++ y1) ++ y2) ++ y3) after
+    → Solves start ((((inputs ++ inputs_of rp0 x0) ++ inputs_of rp1 x1) ++ inputs_of rp2 x2) ++ inputs_of rp3 x3) ((((ys ++ y0) ++ y1) ++ y2) ++ y3) after
+    → PassesFrame Step Solves before now values start inputs (ys ++ (y0 ++ (y1 ++ (y2 ++ y3)))) after
+PassesFrame-from_parts Step Solves before now rp0 rp1 rp2 rp3 values x0 x1 x2 x3 start inputs ys y0 y1 y2 y3 after whole size0 size1 size2 is0 is1 is2 is3 run equations =
     let i0 : List (List ℤ × ℤ) = inputs_of rp0 x0 in
     let i1 : List (List ℤ × ℤ) = inputs_of rp1 x1 in
     let i2 : List (List ℤ × ℤ) = inputs_of rp2 x2 in
@@ -124,3 +117,10 @@ pieces_are xs a rest b rest' c d m n k a_is rest_is b_is rest'_is c_is d_is =
     let middle : b ++ rest' ≡ rest = rw (b_is, rest'_is) (take-append-drop n rest) in
     let first : a ++ rest ≡ xs = rw (a_is, rest_is) (take-append-drop m xs) in
     rw (last, middle, first) refl
+
+-- times before and after the first one
+pub past_reached : (f : ℕ → ℤ) (t n : ℕ) → n ≤ t → past f t n ≡ f (t - n)
+past_reached f t n h = grind (arith, nat_tests)
+
+pub past_before : (f : ℕ → ℤ) (t n : ℕ) → t < n → past f t n ≡ pos 0
+past_before f t n h = grind (arith, nat_tests)
