@@ -4,6 +4,7 @@
 mod os_clock;
 mod os_sink;
 mod os_source;
+mod times;
 mod udp_link;
 mod udp_socket;
 

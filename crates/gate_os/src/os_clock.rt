@@ -3,13 +3,11 @@ ghost use Rattle.std.specs.Prelude.{◌≡◌, ◌+◌, ◌-◌, ◌==◌, true,
 ghost use Rattle.gate_io.specs.Clocks.{Waits, ClockState};
 ghost use Rattle.gate_io.specs.declared.tick_clock.TickNext.{TickNext};
 
+use crate::times::{left_to, time_of};
 use gate_io::{TickClock, TickNext};
 use std::marker::Model;
 use std::thread;
 use std::time::{Clock, Duration, Instant};
-
-// One tick in milliseconds.
-const TICK: u64 = 20;
 
 /// So many ticks of the system's clock, one each 20 ms from its making on, and then the end.
 ///
@@ -51,14 +49,14 @@ impl<'a, R: Clock + Sync> OsClock<'a, R> {
     }
 }
 
-/// The time that is left to the tick of this number, counted from 1. None is left where it has passed.
-fn left_to<R: Clock>(rt: &R, start: Option<Instant>, number: u64) -> Duration {
+/// How long to wait for the tick of this number, counted from 1. Where the clock cannot be read that is one tick.
+fn wait_for<R: Clock>(rt: &R, start: Option<Instant>, tick: u64) -> Duration {
     let Some(start) = start else {
-        return Duration::from_millis(TICK);
+        return time_of(1);
     };
     match start.elapsed(rt) {
-        Ok(passed) => Duration::from_millis(number.saturating_mul(TICK)).saturating_sub(passed),
-        Err(_) => Duration::from_millis(TICK),
+        Ok(passed) => left_to(tick, passed),
+        Err(_) => time_of(1),
     }
 }
 
@@ -79,7 +77,7 @@ impl<'a, R: Clock> TickClock for OsClock<'a, R> {
             return TickNext::Ended;
         }
         self.given += 1;
-        thread::sleep(self.rt, left_to(self.rt, self.start, self.given));
+        thread::sleep(self.rt, wait_for(self.rt, self.start, self.given));
         TickNext::Tick
     }
 }

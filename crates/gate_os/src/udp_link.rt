@@ -3,9 +3,10 @@ ghost use Rattle.std.specs.Prelude.{◌≡◌, true, false, Ok, None, is_some, l
 ghost use Rattle.gate_base.specs.Faults.{HasCause};
 ghost use Rattle.gate_io.specs.Links.{Receives, Sends, IsWithin, Ends};
 ghost use Rattle.gate_io.specs.declared.received.Received.{Received};
-ghost use Rattle.gate_os.specs.Edges.{SocketState, SenderKnown, TargetAfter, count_after};
+ghost use Rattle.gate_os.specs.Edges.{SocketState, SenderKnown, TargetAfter, count_after, lasting};
 
-use crate::udp_socket::{PolledSocket, address_of};
+use crate::times::{life_of, moment_of};
+use crate::udp_socket::{PolledSocket, address_of, open_towards};
 use gate_base::{FaultCount, OutOfMemory};
 use gate_io::{Failed, Link, Received};
 use mio::Events;
@@ -16,11 +17,6 @@ use std::marker::Model;
 use std::net::{Net, SocketAddr};
 use std::sync::Wait;
 use std::time::{Clock, Duration};
-
-// One tick, and what passes after the last one until the end, in milliseconds.
-const TICK: u64 = 20;
-
-const AFTER: u64 = 1000;
 
 /// A UDP socket that takes datagrams of up to 2048 octets, longer ones cut to that.
 ///
@@ -40,11 +36,12 @@ pub struct UdpLink<'a, R: Clock> {
 
 impl<'a, R: Clock> Model for UdpLink<'a, R> {
     ghost use Rattle.std.specs.Prelude.{◌≡◌, true, is_some};
+    ghost use Rattle.std.specs.Duration.{as_nanos};
     ghost use Rattle.gate_os.specs.Edges.{SocketState};
 
     ghost Value = { SocketState };
 
-    ghost view = { λ s. record { is_bound = is_some s.inside; has_target = is_some s.there; ended = s.ended; faults = s.faults } };
+    ghost view = { λ s. record { is_bound = is_some s.inside; has_target = is_some s.there; life = as_nanos s.life; ended = s.ended; faults = s.faults } };
 
     ghost invariant = { λ s. s.is_fixed ≡ true → is_some s.inside ≡ true → is_some s.there ≡ true };
 }
@@ -61,6 +58,7 @@ impl<'a, R: Net + Clock + Wait + Sync> UdpLink<'a, R> {
         ticks: u64,
     ) -> Result<Self, OutOfMemory>
         ensures ended { IfOk result (λ s. s.ended ≡ false) }
+        ensures life { IfOk result (λ s. s.life ≡ lasting ticks) }
         ensures counted { IfOk result (λ s. s.faults ≡ 0) }
         ensures to_senders { length there.now ≡ 0 → IfOk result (λ s. s.has_target ≡ false) }
         ensures to_there { (length there.now ≡ 0 → ⊥) → IfOk result (λ s. s.is_bound ≡ true → s.has_target ≡ true) }
@@ -82,16 +80,38 @@ impl<'a, R: Net + Clock + Wait + Sync> UdpLink<'a, R> {
             inside,
             there: target,
             is_fixed,
-            life: Duration::from_millis(ticks.saturating_mul(TICK).saturating_add(AFTER)),
+            life: life_of(ticks),
             ended: false,
             faults: FaultCount::new(),
         })
     }
-}
 
-/// A time in 8000ths of a second, modulo 2^32.
-fn moment_of(passed: Duration) -> u32 {
-    (passed.as_micros() / 125 % 4_294_967_296) as u32
+    /// A link for what goes back to `there`, an address and a port, from the port of this link: a caller that takes speech only
+    /// from where it sends to, or sends to where speech comes from, is served so (RFC 4961). Where this link is not bound, or
+    /// `there` is of another family of addresses, the system chooses a port. It is for sending: a datagram that is received over it does not come
+    /// over this link. Only want of memory is answered here.
+    pub fn answering(&self, alloc: Global, there: &str, ticks: u64) -> Result<Self, OutOfMemory>
+        ensures ended { IfOk result (λ s. s.ended ≡ false) }
+        ensures life { IfOk result (λ s. s.life ≡ lasting ticks) }
+        ensures counted { IfOk result (λ s. s.faults ≡ 0) }
+        ensures to_there { IfOk result (λ s. s.is_bound ≡ true → s.has_target ≡ true) }
+    {
+        let events = Events::with_capacity(alloc, 1)?;
+        let target = address_of(self.rt, there).ok();
+        let inside = match target {
+            Some(there) => open_towards(self.rt, events, &self.inside, there).ok(),
+            None => None,
+        };
+        Ok(UdpLink {
+            rt: self.rt,
+            inside,
+            there: target,
+            is_fixed: true,
+            life: life_of(ticks),
+            ended: false,
+            faults: FaultCount::new(),
+        })
+    }
 }
 
 /// What the socket answers, and the sender of a datagram.
@@ -150,6 +170,7 @@ impl<'a, R: Clock> Link for UdpLink<'a, R> {
         ensures over { self.old.ended ≡ true → result ≡ Ok Received.Ended }
         ensures unbound { self.old.is_bound ≡ false → self.old.ended ≡ false → IsErr result }
         ensures bound { self.new.is_bound ≡ self.old.is_bound }
+        ensures lasts { self.new.life ≡ self.old.life }
         ensures target { TargetAfter self.old.has_target self.new.has_target result }
         ensures counted { self.new.faults ≡ count_after result self.old.faults }
     {
@@ -227,64 +248,113 @@ mod tests {
         None
     }
 
+    // The moment of the next datagram, where that has these octets.
+    fn heard<R: Clock>(link: &mut UdpLink<'_, R>, octets: &[u8]) -> Option<u32> {
+        let mut piece = [0; 2048];
+        match next(link, &mut piece) {
+            Some((len, at)) if len == octets.len() && piece.starts_with(octets) => Some(at),
+            _ => None,
+        }
+    }
+
+    fn hears<R: Clock>(link: &mut UdpLink<'_, R>, octets: &[u8]) -> bool {
+        heard(link, octets).is_some()
+    }
+
+    fn sends<R: Clock>(link: &mut UdpLink<'_, R>, octets: &[u8]) -> bool {
+        link.send(octets) == Ok(())
+    }
+
+    fn is_idle<R: Clock>(link: &mut UdpLink<'_, R>) -> bool {
+        let mut piece = [0; 2048];
+        link.receive(&mut piece) == Ok(Received::Idle)
+    }
+
+    fn has_failed<R: Clock>(link: &mut UdpLink<'_, R>) -> bool {
+        let mut piece = [0; 2048];
+        link.receive(&mut piece) == Err(Failed) && link.send(b"x") == Err(Failed)
+    }
+
     #[test]
     fn takes_and_sends_datagrams(rt: HostRuntime) -> Result<(), Fail> {
         let (mut near, at_near) = free(&rt, "", 1000)?;
         let (mut far, _) = free(&rt, at_near.as_str(), 1000)?;
         is_send(&near);
-        let mut piece = [0; 2048];
-        assert_eq!(rt; near.send(b"nobody"), Err(Failed));
-        assert_eq!(rt; near.receive(&mut piece), Ok(Received::Idle));
-        assert_eq!(rt; far.send(b"hello"), Ok(()));
-        let Some((5, first)) = next(&mut near, &mut piece) else {
-            return Err(Fail::from("no datagram"));
-        };
-        assert_eq!(rt; piece[..5], *b"hello".as_slice());
-        assert_eq!(rt; near.send(b"back"), Ok(()));
-        assert!(rt; matches!(next(&mut far, &mut piece), Some((4, _))));
-        assert_eq!(rt; piece[..4], *b"back".as_slice());
+        assert!(rt; !sends(&mut near, b"nobody") && is_idle(&mut near));
+        assert!(rt; sends(&mut far, b"hello"));
+        let first = heard(&mut near, b"hello");
+        assert!(rt; sends(&mut near, b"back") && hears(&mut far, b"back"));
         std::thread::sleep(&rt, Duration::from_millis(30));
-        assert_eq!(rt; far.send(&[7; 2049]), Ok(()));
-        let Some((2048, second)) = next(&mut near, &mut piece) else {
-            return Err(Fail::from("no cut datagram"));
-        };
-        assert_eq!(rt; piece[2047], 7);
-        assert!(rt; second.wrapping_sub(first) >= 240);
+        assert!(rt; sends(&mut far, &[7; 2049]));
+        let second = heard(&mut near, &[7; 2048]);
+        assert!(rt; matches!((first, second), (Some(a), Some(b)) if b.wrapping_sub(a) >= 240));
         Ok(())
+    }
+
+    #[test]
+    fn takes_a_burst_whole(rt: HostRuntime) -> Result<(), Fail> {
+        let (mut near, at_near) = free(&rt, "", 1000)?;
+        let (mut far, _) = free(&rt, at_near.as_str(), 1000)?;
+        assert!(rt; is_idle(&mut near) && is_idle(&mut near));
+        assert!(rt; sends(&mut far, b"a") && sends(&mut far, b"bc") && sends(&mut far, b"def"));
+        assert!(rt; hears(&mut near, b"a") && hears(&mut near, b"bc") && hears(&mut near, b"def"));
+        assert!(rt; is_idle(&mut near));
+        Ok(())
+    }
+
+    #[test]
+    fn answers_from_its_own_port(rt: HostRuntime) -> Result<(), Fail> {
+        let (mut near, _) = free(&rt, "", 1000)?;
+        let (mut far, at_far) = free(&rt, "", 1000)?;
+        let mut back = near.answering(rt.alloc(), at_far.as_str(), 1000)?;
+        assert!(rt; sends(&mut back, b"speech") && hears(&mut far, b"speech"));
+        assert!(rt; sends(&mut far, b"to where it came from"));
+        assert!(rt; hears(&mut near, b"to where it came from"));
+        Ok(())
+    }
+
+    #[test]
+    fn answers_without_a_port_of_its_own(rt: HostRuntime) -> Result<(), Fail> {
+        let (mut far, at_far) = free(&rt, "", 1000)?;
+        let shut = UdpLink::bind(&rt, rt.alloc(), "192.0.2.1:9", "", 1000)?;
+        let mut alone = shut.answering(rt.alloc(), at_far.as_str(), 1000)?;
+        assert!(rt; sends(&mut alone, b"alone") && hears(&mut far, b"alone"));
+        let mut astray = far.answering(rt.alloc(), "no address", 1000)?;
+        assert!(rt; has_failed(&mut astray));
+        Ok(())
+    }
+
+    // How long a link lasted, where it ended within a thousand turns.
+    fn lasted<R: Clock>(rt: &R, link: &mut UdpLink<'_, R>) -> Option<Duration> {
+        let mut piece = [0; 2048];
+        for _ in 0..1000 {
+            if link.receive(&mut piece) == Ok(Received::Ended) {
+                let Some(socket) = &link.inside else {
+                    return None;
+                };
+                return socket.age(rt).ok();
+            }
+        }
+        None
     }
 
     #[test]
     fn ends_a_second_after_its_ticks(rt: HostRuntime) -> Result<(), Fail> {
-        let (mut link, here) = free(&rt, "", 5)?;
+        let (mut link, _) = free(&rt, "", 5)?;
+        let age = lasted(&rt, &mut link);
+        assert!(rt; matches!(age, Some(age) if age >= Duration::from_millis(1100)));
         let mut piece = [0; 2048];
-        let mut ended = None;
-        for _ in 0..1000 {
-            if link.receive(&mut piece) == Ok(Received::Ended) {
-                let Some(socket) = &link.inside else {
-                    return Err(Fail::from("no socket"));
-                };
-                ended = Some(socket.age(&rt)?);
-                break;
-            }
-        }
-        let Some(age) = ended else {
-            return Err(Fail::from("no end"));
-        };
-        assert!(rt; age >= Duration::from_millis(1100));
         assert_eq!(rt; link.receive(&mut piece), Ok(Received::Ended));
-        let mut taken = UdpLink::bind(&rt, rt.alloc(), here.as_str(), "", 1)?;
-        assert_eq!(rt; taken.receive(&mut piece), Err(Failed));
-        assert_eq!(rt; taken.send(b"x"), Err(Failed));
-        let mut astray = UdpLink::bind(&rt, rt.alloc(), "127.0.0.1:0", "no address", 1)?;
-        assert_eq!(rt; astray.receive(&mut piece), Err(Failed));
-        assert_eq!(rt; astray.send(b"x"), Err(Failed));
         Ok(())
     }
 
     #[test]
-    fn moments_wrap(rt: HostRuntime) {
-        assert_eq!(rt; moment_of(Duration::from_micros(249)), 1);
-        assert_eq!(rt; moment_of(Duration::from_secs(1)), 8000);
-        assert_eq!(rt; moment_of(Duration::from_micros(536_870_912_125)), 1);
+    fn what_cannot_be_bound_fails_at_each_call(rt: HostRuntime) -> Result<(), Fail> {
+        let (_link, here) = free(&rt, "", 5)?;
+        let mut taken = UdpLink::bind(&rt, rt.alloc(), here.as_str(), "", 1)?;
+        assert!(rt; has_failed(&mut taken) && has_failed(&mut taken));
+        let mut astray = UdpLink::bind(&rt, rt.alloc(), "127.0.0.1:0", "no address", 1)?;
+        assert!(rt; has_failed(&mut astray));
+        Ok(())
     }
 }

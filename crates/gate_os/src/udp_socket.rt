@@ -1,23 +1,27 @@
 // A socket with its poll.
 ghost use Rattle.std.specs.Prelude.{◌≤◌, IfOk, IfSome, length};
 
+use crate::times::patience;
 use mio::net::UdpSocket;
 use mio::{Events, Interest, Poll, Token};
 use std::io;
 use std::io::ErrorKind;
 use std::net::{Net, SocketAddr, ToSocketAddrs};
+use std::os::fd::AsFd;
 use std::time::{Clock, Duration, Instant};
 
-// The longest wait for a datagram, in milliseconds.
-const PATIENCE: u64 = 5;
-
 /// A bound socket, and when it was bound.
+///
+/// The poll tells changes alone: where datagrams are left it says nothing. So the socket is read until it has nothing, and
+/// only then waited for.
 #[derive(Drop)]
 pub(crate) struct PolledSocket {
     socket: UdpSocket,
     poll: Poll,
     events: Events,
     begun: Instant,
+    // Whether the last read found nothing, and no change came since.
+    is_drained: bool,
 }
 
 /// The first address that a text names: a host and a port.
@@ -28,10 +32,34 @@ pub(crate) fn address_of<R: Net>(rt: &R, text: &str) -> io::Result<SocketAddr> {
     }
 }
 
+/// A socket from which datagrams go to an address: at the port of the given one, where that is bound and of the same family,
+/// and else at a port that the system chooses.
+pub(crate) fn open_towards<R: Net + Clock>(
+    rt: &R,
+    events: Events,
+    beside: &Option<PolledSocket>,
+    there: SocketAddr,
+) -> io::Result<PolledSocket> {
+    match beside {
+        Some(socket) if socket.here()?.is_ipv4() == there.is_ipv4() => socket.twin(rt, events),
+        _ if there.is_ipv4() => PolledSocket::open(rt, events, "0.0.0.0:0"),
+        _ => PolledSocket::open(rt, events, "[::]:0"),
+    }
+}
+
 impl PolledSocket {
     /// Binds a socket at the address that the text names.
     pub(crate) fn open<R: Net + Clock>(rt: &R, events: Events, here: &str) -> io::Result<Self> {
-        let mut socket = UdpSocket::bind(rt, address_of(rt, here)?)?;
+        PolledSocket::over(rt, events, UdpSocket::bind(rt, address_of(rt, here)?)?)
+    }
+
+    /// Another handle of the same socket, with a poll and an age of its own.
+    fn twin<R: Net + Clock>(&self, rt: &R, events: Events) -> io::Result<Self> {
+        let handle = self.socket.as_fd().try_clone_to_owned()?;
+        PolledSocket::over(rt, events, UdpSocket::from(handle))
+    }
+
+    fn over<R: Net + Clock>(rt: &R, events: Events, mut socket: UdpSocket) -> io::Result<Self> {
         let poll = Poll::new(rt)?;
         poll.registry()
             .register(&mut socket, Token(0), Interest::READABLE)?;
@@ -40,6 +68,7 @@ impl PolledSocket {
             poll,
             events,
             begun: Instant::now(rt)?,
+            is_drained: false,
         })
     }
 
@@ -49,7 +78,6 @@ impl PolledSocket {
     }
 
     /// The address at which the socket is bound.
-    #[cfg(test)]
     pub(crate) fn here(&self) -> io::Result<SocketAddr> {
         self.socket.local_addr()
     }
@@ -59,34 +87,31 @@ impl PolledSocket {
         Ok(self.socket.send_to(from, there)? == from.len())
     }
 
-    /// The datagram that is there with its sender, or none. A longer one than the piece is cut by the system.
-    fn try_take(&self, into: &mut [u8]) -> io::Result<Option<(usize, SocketAddr)>>
-        ensures { IfOk result (λ o. IfSome o (λ p. p.0 ≤ length into.new)) }
-    {
-        match self.socket.recv_from(into) {
-            Ok(taken) => Ok(Some(taken)),
-            Err(error) => {
-                if error.kind() == ErrorKind::WouldBlock {
-                    Ok(None)
-                } else {
-                    Err(error)
-                }
-            }
-        }
+    /// Waits for a change, and answers whether one came.
+    fn wait(&mut self) -> io::Result<bool> {
+        self.poll.poll(&mut self.events, Some(patience()))?;
+        Ok(!self.events.is_empty())
     }
 
-    /// The same, after a wait where none is there. The poll tells changes alone, so the socket is read until it has
-    /// nothing before each wait.
+    /// The next datagram with its sender, or none. It waits only behind a read that found nothing, and reads only where
+    /// something may be there, so that a turn in vain is one call of the system. A datagram that is longer than the piece
+    /// is cut by the system.
     pub(crate) fn take(&mut self, into: &mut [u8]) -> io::Result<Option<(usize, SocketAddr)>>
         ensures { IfOk result (λ o. IfSome o (λ p. p.0 ≤ length into.new)) }
     {
-        match self.try_take(into) {
-            Ok(None) => {
-                let patience = Some(Duration::from_millis(PATIENCE));
-                self.poll.poll(&mut self.events, patience)?;
-                self.try_take(into)
+        if self.is_drained && !self.wait()? {
+            return Ok(None);
+        }
+        self.is_drained = false;
+        match self.socket.recv_from(into) {
+            Ok(taken) => Ok(Some(taken)),
+            Err(error) => {
+                if error.kind() != ErrorKind::WouldBlock {
+                    return Err(error);
+                }
+                self.is_drained = true;
+                Ok(None)
             }
-            other => other,
         }
     }
 }
