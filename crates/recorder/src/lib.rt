@@ -45,6 +45,6 @@ pub use script_writer::{write_script, write_script_head};
 pub use tally::{PlayTally, Tally};
 
 #[cfg(test)]
-mod journal_tests;
+mod test_files;
 #[cfg(test)]
 mod tests;

@@ -1,356 +1,80 @@
-ghost use Rattle.std.specs.Prelude.{◌≤◌};
+ghost use Rattle.recorder.specs.Filing.{FilerFits};
+ghost use Rattle.recorder.specs.Script.{FitsSomeHead};
 
 use super::*;
-use frame_codec::{Item, frame_of};
+use crate::test_files::{
+    EXCHANGE, FILED, Kept, Opened, PLAYED, SCRIPT, cuts_are_told, end_of_file, frame, has_fault,
+    octets_of,
+};
+use frame_codec::Item;
 use gate_base::OutOfMemory;
 use gate_io::{MemorySink, MemorySource};
 use play_machine::FileReply;
 use std::alloc::Global;
 use std::test::Fail;
 
-// A head of one filer, 2^6 slots and delay 3, three events and the end mark: 100 octets.
-fn script() -> [u8; 100] {
-    let mut octets = [0xDA; 100];
-    octets[..12].copy_from_slice(b"GSMGSC01\x01\x06\x00\x03");
-    octets[12] = 0x02;
-    octets[13] = 0;
-    octets[14..22].copy_from_slice(b"\0\0\0\x01\0\0\0\x40");
-    octets[55] = 0x01;
-    octets[56] = 0x02;
-    octets[57] = 0;
-    octets[58..66].copy_from_slice(b"\0\0\x7F\xFF\xFF\xFF\xFF\xFF");
-    octets[99] = 0xFF;
-    octets
-}
-
-// Whether the end mark comes behind three events.
-fn ends(source: &mut MemorySource) -> Result<bool, RecordEnd> {
-    let mut reader = ScriptReader::new();
-    reader.head(source)?;
-    reader.next(source)?;
-    reader.next(source)?;
-    reader.next(source)?;
-    Ok(reader.next(source)?.is_none())
-}
-
-// The answer to these octets, which come in pieces of this size.
-fn read(alloc: Global, octets: &[u8], piece: usize) -> Result<Result<bool, RecordEnd>, OutOfMemory>
-    requires { 1 ≤ piece }
-{
-    let mut source = MemorySource::new(alloc, octets, piece, &[])?;
-    Ok(ends(&mut source))
+// Whether the file has so many events, and each front of it is cut off where it ends.
+fn is_whole(alloc: Global, kept: Kept, text: &str, events: usize) -> Result<bool, OutOfMemory> {
+    let octets = octets_of(alloc, text)?;
+    if end_of_file(alloc, kept, &octets, 1, &[])? != Ok(events) {
+        return Ok(false);
+    }
+    if end_of_file(alloc, kept, &octets, 300, &[])? != Ok(events) {
+        return Ok(false);
+    }
+    cuts_are_told(alloc, kept, &octets)
 }
 
 #[test]
-fn each_cut_of_a_script_is_told_with_its_place(rt: HostRuntime) -> Result<(), Fail> {
-    let octets = script();
-    assert_eq!(rt; read(rt.alloc(), &octets, 1)?, Ok(true));
-    assert_eq!(rt; read(rt.alloc(), &octets, 100)?, Ok(true));
-    for n in 0..100 {
-        let fault = RecordFault::Cut { at: n as u64 };
-        assert_eq!(rt;
-            read(rt.alloc(), &octets[..n], 7)?,
-            Err(RecordEnd::Fault(fault))
-        );
-    }
+fn each_file_is_read_and_each_cut_of_it_is_told(rt: HostRuntime) -> Result<(), Fail> {
+    assert!(rt; is_whole(rt.alloc(), Kept::Script, SCRIPT, 3)?);
+    assert!(rt; is_whole(rt.alloc(), Kept::Script, EXCHANGE, 2)?);
+    assert!(rt; is_whole(rt.alloc(), Kept::Beats, PLAYED, 4)?);
+    assert!(rt; is_whole(rt.alloc(), Kept::Player, PLAYED, 4)?);
+    assert!(rt; is_whole(rt.alloc(), Kept::Filer, FILED, 10)?);
     Ok(())
 }
 
 #[test]
-fn a_wrong_octet_is_told_with_its_place(rt: HostRuntime) -> Result<(), Fail> {
-    let field = |at| RecordFault::Field { at };
-    let kind = |at| RecordFault::Kind { at };
-    let cases = [
-        (0, 0x00, RecordFault::Magic),
-        (7, 0x32, RecordFault::Magic),
-        (8, 0, field(8)),
-        (8, 65, field(8)),
-        (9, 11, field(9)),
-        (11, 64, field(10)),
-        (12, 0x09, kind(12)),
-        (13, 1, field(13)),
-        (14, 0x80, field(14)),
-        (22, 0xC8, field(22)),
-        (55, 0x00, kind(55)),
-        (59, 0x80, field(58)),
-        (66, 0xE0, field(66)),
+fn a_wrong_octet_of_a_script_is_told_with_its_place(rt: HostRuntime) -> Result<(), Fail> {
+    // The place of an octet, what stands there, and the place of the field.
+    let fields = [
+        (8, 0, 8),
+        (8, 65, 8),
+        (9, 11, 9),
+        (11, 64, 10),
+        (13, 1, 13),
+        (14, 0x80, 14),
+        (22, 0xC8, 22),
+        (59, 0x80, 58),
+        (66, 0xE0, 66),
     ];
-    for (at, octet, fault) in cases {
-        let mut octets = script();
-        assert!(rt; at < 100);
-        octets[at] = octet;
-        assert_eq!(rt; read(rt.alloc(), &octets, 3)?, Err(RecordEnd::Fault(fault)));
+    for (at, octet, place) in fields {
+        let fault = RecordFault::Field { at: place };
+        assert!(rt;
+            has_fault(rt.alloc(), Kept::Script, SCRIPT, at, octet, fault)?,
+            "{at}"
+        );
     }
-    Ok(())
-}
-
-#[test]
-fn the_events_of_a_script_are_read_and_its_end_is_kept(rt: HostRuntime) -> Result<(), Fail> {
-    let octets = script();
-    let mut source = MemorySource::new(rt.alloc(), &octets, 1, &[])?;
-    let mut reader = ScriptReader::new();
-    let head = Head {
-        filers: 1,
-        g: 6,
-        delay: 3,
-    };
-    assert_eq!(rt; reader.head(&mut source), Ok(head));
-    assert_eq!(rt; reader.head(&mut source), Ok(head));
-    let first = reader.next(&mut source);
-    assert!(rt;
-        matches!(
-            first,
-            Ok(Some(ScriptEvent::File {
-                caller: 0,
-                number: 4294967360,
-                ..
-            }))
-        )
-    );
-    assert!(rt; matches!(reader.next(&mut source), Ok(Some(ScriptEvent::Tick))));
-    let last = reader.next(&mut source);
-    assert!(rt;
-        matches!(
-            last,
-            Ok(Some(ScriptEvent::File {
-                number: 140737488355327,
-                ..
-            }))
-        )
-    );
-    assert!(rt; matches!(reader.next(&mut source), Ok(None)));
-    assert!(rt; matches!(reader.next(&mut source), Ok(None)));
-    scripts_have_no_fault();
-    Ok(())
-}
-
-#[test]
-fn a_fault_and_a_failed_read_are_answered_again(rt: HostRuntime) -> Result<(), Fail> {
-    let octets = script();
-    let mut source = MemorySource::new(rt.alloc(), &octets, 10, &[3])?;
-    let mut reader = ScriptReader::new();
-    assert!(rt; reader.head(&mut source).is_ok());
-    assert!(rt; matches!(reader.next(&mut source), Err(RecordEnd::ReadFailed)));
-    assert!(rt; matches!(reader.next(&mut source), Err(RecordEnd::ReadFailed)));
-    let mut wrong = MemorySource::new(rt.alloc(), &octets[1..], 10, &[])?;
-    let mut refused = ScriptReader::new();
-    let magic = Err(RecordEnd::Fault(RecordFault::Magic));
-    assert_eq!(rt; refused.head(&mut wrong), magic);
-    assert_eq!(rt; refused.head(&mut source), magic);
-    Ok(())
-}
-
-#[test]
-fn a_journal_of_each_event_has_its_octets(rt: HostRuntime) -> Result<(), Fail> {
-    let mut sink = MemorySink::new(rt.alloc(), 100, &[])?;
-    let head = Head {
-        filers: 64,
-        g: 10,
-        delay: 1023,
-    };
-    assert_eq!(rt; write_play_head(&head, &mut sink), Ok(()));
-    let mut octets = [0x55; 33];
-    octets[0] = 0xDE;
-    let Ok(frame) = frame_of(&octets) else {
-        return Ok(());
-    };
-    let items = [Item::Idle, Item::Erasure, Item::Frame(frame)];
-    for item in items {
-        assert_eq!(rt; write_play(&play_event_of(item), &mut sink), Ok(()));
+    for (at, octet) in [(0, 0x00), (7, 0x32)] {
+        let fault = RecordFault::Magic;
+        assert!(rt;
+            has_fault(rt.alloc(), Kept::Script, SCRIPT, at, octet, fault)?,
+            "{at}"
+        );
     }
-    assert_eq!(rt;
-        write_play(&PlayEvent::Base { base: 1000 }, &mut sink),
-        Ok(())
-    );
-    assert_eq!(rt; write_end(&mut sink), Ok(()));
-    let given = sink.octets();
-    assert_eq!(rt; given.len(), 54);
-    assert_eq!(rt;
-        given[..16],
-        *b"GSMGPJ01\x40\x0A\x03\xFF\x10\x12\x13\xDE".as_slice()
-    );
-    assert_eq!(rt; given[47..], *b"\x55\x11\0\0\x03\xE8\xFF".as_slice());
-    Ok(())
-}
-
-// A head of one filer, 2^6 slots and delay 3, and an Idle, a Base, an Erasure, a Frame and the end mark: 54 octets.
-fn journal() -> [u8; 54] {
-    let mut octets = [0xDA; 54];
-    octets[..20].copy_from_slice(b"GSMGPJ01\x01\x06\x00\x03\x10\x11\0\0\x03\xE8\x12\x13");
-    octets[53] = 0xFF;
-    octets
-}
-
-// Whether the end mark comes behind four events.
-fn ends_played(source: &mut MemorySource) -> Result<bool, RecordEnd> {
-    let mut reader = PlayReader::new();
-    reader.head(source)?;
-    reader.next(source)?;
-    reader.next(source)?;
-    reader.next(source)?;
-    reader.next(source)?;
-    Ok(reader.next(source)?.is_none())
-}
-
-// The answer to these octets.
-fn played(alloc: Global, octets: &[u8]) -> Result<Result<bool, RecordEnd>, OutOfMemory> {
-    let mut source = MemorySource::new(alloc, octets, 5, &[])?;
-    Ok(ends_played(&mut source))
-}
-
-#[test]
-fn a_players_journal_is_read_and_each_cut_is_told(rt: HostRuntime) -> Result<(), Fail> {
-    let octets = journal();
-    assert_eq!(rt; played(rt.alloc(), &octets)?, Ok(true));
-    for n in 0..54 {
-        let fault = RecordFault::Cut { at: n as u64 };
-        assert_eq!(rt;
-            played(rt.alloc(), &octets[..n])?,
-            Err(RecordEnd::Fault(fault))
+    for (at, octet) in [(12, 0x09), (55, 0x00)] {
+        let fault = RecordFault::Kind { at: at as u64 };
+        assert!(rt;
+            has_fault(rt.alloc(), Kept::Script, SCRIPT, at, octet, fault)?,
+            "{at}"
         );
     }
     Ok(())
 }
 
 #[test]
-fn idle_and_base_out_of_order_are_unknown_kinds(rt: HostRuntime) -> Result<(), Fail> {
-    // Behind the head stand an Idle, a Base at 13, an Erasure at 18 and a Frame at 19.
-    let cases = [
-        (18, 0x10, RecordFault::Kind { at: 18 }),
-        (18, 0x11, RecordFault::Kind { at: 18 }),
-        (19, 0x11, RecordFault::Kind { at: 19 }),
-        (19, 0x10, RecordFault::Kind { at: 19 }),
-        (12, 0x09, RecordFault::Kind { at: 12 }),
-        (20, 0xC8, RecordFault::Field { at: 20 }),
-    ];
-    for (at, octet, fault) in cases {
-        let mut octets = journal();
-        assert!(rt; at < 54);
-        octets[at] = octet;
-        assert_eq!(rt; played(rt.alloc(), &octets)?, Err(RecordEnd::Fault(fault)));
-    }
-    Ok(())
-}
-
-#[test]
-fn a_filers_journal_has_its_octets(rt: HostRuntime) -> Result<(), Fail> {
-    let mut sink = MemorySink::new(rt.alloc(), 300, &[])?;
-    let head = Head {
-        filers: 1,
-        g: 6,
-        delay: 3,
-    };
-    assert_eq!(rt; write_filer_head(&head, 0, &mut sink), Ok(()));
-    let mut octets = [0x55; 33];
-    octets[0] = 0xDE;
-    let Ok(frame) = frame_of(&octets) else {
-        return Ok(());
-    };
-    let asked = Asked2 {
-        said: 1000,
-        held: 258,
-    };
-    let number = 4294967299;
-    let reply = FileReply::Accepted;
-    let late = FileReply::Late { ahead: 4294967300 };
-    let source = FilerEvent::Source(asked);
-    assert_eq!(rt; write_filer(&source, &mut sink), Ok(()));
-    let accepted = FilerEvent::File {
-        number,
-        frame,
-        reply,
-    };
-    assert_eq!(rt; write_filer(&accepted, &mut sink), Ok(()));
-    let passed = FilerEvent::File {
-        number,
-        frame,
-        reply: late,
-    };
-    assert_eq!(rt; write_filer(&passed, &mut sink), Ok(()));
-    let refused = FilerEvent::Refused {
-        code: 7,
-        detail: 13,
-    };
-    assert_eq!(rt; write_filer(&refused, &mut sink), Ok(()));
-    assert_eq!(rt; write_filer(&FilerEvent::Rtcp, &mut sink), Ok(()));
-    assert_eq!(rt; write_filer(&FilerEvent::Empty, &mut sink), Ok(()));
-    let given = sink.octets();
-    assert_eq!(rt; given.len(), 13 + 9 + 42 + 50 + 4 + 1 + 1);
-    assert_eq!(rt;
-        given[..22],
-        *b"GSMGFJ01\x01\x06\0\x03\0\x20\0\0\x03\xE8\0\0\x01\x02".as_slice()
-    );
-    assert_eq!(rt; given[22..32], *b"\x22\0\0\0\x01\0\0\0\x03\xDE".as_slice());
-    assert_eq!(rt; given[64..74], *b"\x24\0\0\0\x01\0\0\0\x03\xDE".as_slice());
-    assert_eq!(rt;
-        given[106..],
-        *b"\0\0\0\x01\0\0\0\x04\x26\x07\0\x0D\x27\x29".as_slice()
-    );
-    Ok(())
-}
-
-#[test]
-fn a_script_has_its_octets(rt: HostRuntime) -> Result<(), Fail> {
-    let mut sink = MemorySink::new(rt.alloc(), 100, &[])?;
-    let head = Head {
-        filers: 1,
-        g: 6,
-        delay: 3,
-    };
-    assert_eq!(rt; write_script_head(&head, &mut sink), Ok(()));
-    let Ok(frame) = frame_of(&[0xDA; 33]) else {
-        return Ok(());
-    };
-    let event = ScriptEvent::File {
-        caller: 0,
-        number: 4294967360,
-        frame,
-    };
-    assert_eq!(rt; write_script(&event, &mut sink), Ok(()));
-    assert_eq!(rt; write_script(&ScriptEvent::Tick, &mut sink), Ok(()));
-    let given = sink.octets();
-    assert_eq!(rt; given.len(), 56);
-    assert_eq!(rt;
-        given[..16],
-        *b"GSMGSC01\x01\x06\0\x03\x02\0\0\0".as_slice()
-    );
-    assert_eq!(rt; given[16..24], *b"\0\x01\0\0\0\x40\xDA\xDA".as_slice());
-    assert_eq!(rt; given[54..], *b"\xDA\x01".as_slice());
-    Ok(())
-}
-
-// A head, a Datagram of two octets at moment 7, a Beat and the end mark.
-fn exchange() -> [u8; 24] {
-    let mut octets = [0xFF; 24];
-    octets.copy_from_slice(b"GSMGSC01\x01\x06\0\x03\x03\0\0\0\0\x07\0\x02\xAB\xCD\x04\xFF");
-    octets
-}
-
-// The answer to these octets: whether the end mark comes behind two events.
-fn exchanged(alloc: Global, octets: &[u8]) -> Result<Result<bool, RecordEnd>, OutOfMemory> {
-    let mut source = MemorySource::new(alloc, octets, 3, &[])?;
-    Ok(ends_behind_two(&mut source))
-}
-
-fn ends_behind_two(source: &mut MemorySource) -> Result<bool, RecordEnd> {
-    let mut reader = ScriptReader::new();
-    reader.head(source)?;
-    reader.next(source)?;
-    reader.next(source)?;
-    Ok(reader.next(source)?.is_none())
-}
-
-#[test]
-fn a_datagram_is_read_and_each_fault_is_told(rt: HostRuntime) -> Result<(), Fail> {
-    let octets = exchange();
-    assert_eq!(rt; exchanged(rt.alloc(), &octets)?, Ok(true));
-    for n in 0..24 {
-        let fault = RecordFault::Cut { at: n as u64 };
-        assert_eq!(rt;
-            exchanged(rt.alloc(), &octets[..n])?,
-            Err(RecordEnd::Fault(fault))
-        );
-    }
+fn a_wrong_octet_of_a_datagram_is_told_with_its_place(rt: HostRuntime) -> Result<(), Fail> {
     let cases = [
         (13, 0x01, RecordFault::Field { at: 13 }),
         (18, 0x09, RecordFault::Field { at: 18 }),
@@ -358,32 +82,351 @@ fn a_datagram_is_read_and_each_fault_is_told(rt: HostRuntime) -> Result<(), Fail
         (22, 0x05, RecordFault::Kind { at: 22 }),
     ];
     for (at, octet, fault) in cases {
-        let mut wrong = exchange();
-        assert!(rt; at < 24);
-        wrong[at] = octet;
-        assert_eq!(rt;
-            exchanged(rt.alloc(), &wrong)?,
-            Err(RecordEnd::Fault(fault))
+        assert!(rt;
+            has_fault(rt.alloc(), Kept::Script, EXCHANGE, at, octet, fault)?,
+            "{at}"
         );
     }
     Ok(())
 }
 
 #[test]
-fn a_datagram_and_a_beat_have_their_octets(rt: HostRuntime) -> Result<(), Fail> {
-    let mut sink = MemorySink::new(rt.alloc(), 100, &[])?;
+fn idle_and_base_out_of_order_are_unknown_kinds(rt: HostRuntime) -> Result<(), Fail> {
+    let kinds = [(18, 0x10), (18, 0x11), (19, 0x11), (19, 0x10), (12, 0x09)];
+    for (at, octet) in kinds {
+        let fault = RecordFault::Kind { at: at as u64 };
+        assert!(rt;
+            has_fault(rt.alloc(), Kept::Beats, PLAYED, at, octet, fault)?,
+            "{at}"
+        );
+    }
+    let field = RecordFault::Field { at: 20 };
+    assert!(rt; has_fault(rt.alloc(), Kept::Beats, PLAYED, 20, 0xC8, field)?);
+    // An Erasure in the place of the first Idle, and then a Base.
+    let kind = RecordFault::Kind { at: 13 };
+    assert!(rt; has_fault(rt.alloc(), Kept::Player, PLAYED, 12, 0x12, kind)?);
+    Ok(())
+}
+
+#[test]
+fn a_wrong_octet_of_a_filers_journal_is_told_with_its_place(rt: HostRuntime) -> Result<(), Fail> {
+    // The place of an octet, what stands there, and the place of the field.
+    let fields = [
+        (8, 0, 8),
+        (9, 11, 9),
+        (10, 1, 10),
+        (12, 2, 12),
+        (32, 0x80, 32),
+        (40, 0xC8, 40),
+        (74, 0x80, 74),
+        (82, 0xEA, 82),
+        // Late ahead of itself, and beyond 2^48.
+        (164, 3, 157),
+        (158, 1, 157),
+        // Beyond behind itself.
+        (214, 3, 207),
+        // Codes 0, 11, 16 and 23, and a detail where there is none.
+        (216, 0, 216),
+        (216, 11, 216),
+        (216, 16, 216),
+        (216, 23, 216),
+        (216, 8, 217),
+    ];
+    for (at, octet, place) in fields {
+        let fault = RecordFault::Field { at: place };
+        assert!(rt;
+            has_fault(rt.alloc(), Kept::Filer, FILED, at, octet, fault)?,
+            "{at}"
+        );
+    }
+    for (at, octet) in [(13, 0x10), (13, 0x2A), (31, 0x1F)] {
+        let fault = RecordFault::Kind { at: at as u64 };
+        assert!(rt;
+            has_fault(rt.alloc(), Kept::Filer, FILED, at, octet, fault)?,
+            "{at}"
+        );
+    }
+    for (at, octet) in [(0, 0x00), (4, 0x50)] {
+        let fault = RecordFault::Magic;
+        assert!(rt;
+            has_fault(rt.alloc(), Kept::Filer, FILED, at, octet, fault)?,
+            "{at}"
+        );
+    }
+    Ok(())
+}
+
+// Whether the next event is a File of filer 0 with this number.
+fn is_file(opened: &mut Opened, source: &mut MemorySource, wanted: u64) -> bool {
+    match opened.next(source) {
+        Ok(Some(ScriptEvent::File { caller, number, .. })) => caller == 0 && number == wanted,
+        _ => false,
+    }
+}
+
+fn is_tick(opened: &mut Opened, source: &mut MemorySource) -> bool {
+    matches!(opened.next(source), Ok(Some(ScriptEvent::Tick)))
+}
+
+fn is_over(opened: &mut Opened, source: &mut MemorySource) -> bool {
+    matches!(opened.next(source), Ok(None))
+}
+
+fn has_failed(opened: &mut Opened, source: &mut MemorySource) -> bool {
+    matches!(opened.next(source), Err(RecordEnd::ReadFailed))
+}
+
+#[test]
+fn the_events_of_a_script_are_read_and_its_end_is_kept(rt: HostRuntime) -> Result<(), Fail> {
+    let octets = octets_of(rt.alloc(), SCRIPT)?;
+    let mut source = MemorySource::new(rt.alloc(), &octets, 1, &[])?;
+    let mut opened = Opened::of(&mut source)?;
+    assert!(rt; is_file(&mut opened, &mut source, 4294967360));
+    assert!(rt; is_tick(&mut opened, &mut source));
+    assert!(rt; is_file(&mut opened, &mut source, 140737488355327));
+    assert!(rt; is_over(&mut opened, &mut source));
+    assert!(rt; is_over(&mut opened, &mut source));
+    scripts_have_no_fault();
+    Ok(())
+}
+
+// Whether the head of a script is answered so, and so again from another source.
+fn head_is(
+    source: &mut MemorySource,
+    other: &mut MemorySource,
+    answer: Result<Head, RecordEnd>,
+) -> bool {
+    let mut reader = ScriptReader::new();
+    reader.head(source) == answer && reader.head(other) == answer
+}
+
+#[test]
+fn a_head_and_its_fault_are_answered_again(rt: HostRuntime) -> Result<(), Fail> {
+    let octets = octets_of(rt.alloc(), SCRIPT)?;
+    let mut right = MemorySource::new(rt.alloc(), &octets, 1, &[])?;
+    let mut wrong = MemorySource::new(rt.alloc(), b"SMGSC01", 10, &[])?;
+    let head = Head {
+        filers: 1,
+        g: 6,
+        delay: 3,
+    };
+    assert!(rt; head_is(&mut right, &mut wrong, Ok(head)));
+    let magic = RecordEnd::Fault(RecordFault::Magic);
+    assert!(rt; head_is(&mut wrong, &mut right, Err(magic)));
+    Ok(())
+}
+
+#[test]
+fn a_failed_read_is_answered_again(rt: HostRuntime) -> Result<(), Fail> {
+    let octets = octets_of(rt.alloc(), SCRIPT)?;
+    let mut source = MemorySource::new(rt.alloc(), &octets, 10, &[3])?;
+    let mut opened = Opened::of(&mut source)?;
+    assert!(rt; has_failed(&mut opened, &mut source));
+    assert!(rt; has_failed(&mut opened, &mut source));
+    Ok(())
+}
+
+#[test]
+fn a_source_that_fails_gives_no_journal(rt: HostRuntime) -> Result<(), Fail> {
+    let octets = octets_of(rt.alloc(), FILED)?;
+    let failed = Err(RecordEnd::ReadFailed);
+    assert!(rt; end_of_file(rt.alloc(), Kept::Filer, &octets, 10, &[4])? == failed);
+    let magic = Err(RecordEnd::Fault(RecordFault::Magic));
+    assert!(rt; end_of_file(rt.alloc(), Kept::Player, &octets, 10, &[])? == magic);
+    Ok(())
+}
+
+fn filer_event(journal: &FilerJournal, i: usize) -> Option<FilerEvent> {
+    if i < journal.len() {
+        Some(*journal.get(i))
+    } else {
+        None
+    }
+}
+
+#[test]
+fn a_filers_journal_keeps_its_events(rt: HostRuntime) -> Result<(), Fail> {
+    let octets = octets_of(rt.alloc(), FILED)?;
+    let mut source = MemorySource::new(rt.alloc(), &octets, 9, &[])?;
+    let journal = FilerJournal::read(rt.alloc(), &mut source)?;
+    let head = Head {
+        filers: 2,
+        g: 6,
+        delay: 3,
+    };
+    assert!(rt; journal.head() == head);
+    assert!(rt; journal.caller() == 1);
+    let asked = Asked2 {
+        said: 1000,
+        held: 258,
+    };
+    let refused = FilerEvent::Refused {
+        code: 7,
+        detail: 13,
+    };
+    let stranger = FilerEvent::Stranger { ssrc: 1, held: 2 };
+    assert!(rt; filer_event(&journal, 0) == Some(FilerEvent::Source(asked)));
+    assert!(rt; filer_event(&journal, 1) == Some(FilerEvent::Base(asked)));
+    assert!(rt; filer_event(&journal, 6) == Some(refused));
+    assert!(rt; filer_event(&journal, 8) == Some(stranger));
+    assert!(rt; filer_event(&journal, 9) == Some(FilerEvent::Empty));
+    assert!(rt; filer_event(&journal, 10).is_none());
+    assert!(rt;
+        matches!(
+            filer_event(&journal, 4),
+            Some(FilerEvent::File {
+                number: 4294967299,
+                reply: FileReply::Late { ahead: 4294967300 },
+                ..
+            })
+        )
+    );
+    filer_journals_have_no_fault();
+    player_journals_have_no_fault();
+    Ok(())
+}
+
+fn play_event(journal: &PlayerJournal, i: usize) -> Option<PlayEvent> {
+    if i < journal.len() {
+        Some(*journal.get(i))
+    } else {
+        None
+    }
+}
+
+#[test]
+fn a_players_journal_keeps_its_events(rt: HostRuntime) -> Result<(), Fail> {
+    let octets = octets_of(rt.alloc(), PLAYED)?;
+    let mut source = MemorySource::new(rt.alloc(), &octets, 9, &[])?;
+    let journal = PlayerJournal::read(rt.alloc(), &mut source)?;
+    let base = PlayEvent::Base { base: 1000 };
+    assert!(rt; journal.head().filers == 1);
+    assert!(rt; play_event(&journal, 0) == Some(PlayEvent::Idle));
+    assert!(rt; play_event(&journal, 1) == Some(base));
+    assert!(rt; play_event(&journal, 2) == Some(PlayEvent::Erasure));
+    assert!(rt; matches!(play_event(&journal, 3), Some(PlayEvent::Frame(_))));
+    assert!(rt; play_event(&journal, 4).is_none());
+    Ok(())
+}
+
+// Whether what was given are the octets of these words.
+fn holds(alloc: Global, sink: &MemorySink, text: &str) -> Result<bool, OutOfMemory> {
+    Ok(*sink.octets() == *octets_of(alloc, text)?.as_slice())
+}
+
+// Whether an event of a filer is written so, in one give: a second one fails.
+fn is_filed(alloc: Global, event: &FilerEvent, text: &str) -> Result<bool, OutOfMemory>
+    requires { FilerFits event.now }
+{
+    let mut sink = MemorySink::new(alloc, 60, &[(1, 0)])?;
+    let given = write_filer(event, &mut sink);
+    Ok(given.is_ok() && holds(alloc, &sink, text)?)
+}
+
+// Whether an event of the player is written so, in one give.
+fn is_played(alloc: Global, event: &PlayEvent, text: &str) -> Result<bool, OutOfMemory> {
+    let mut sink = MemorySink::new(alloc, 60, &[(1, 0)])?;
+    let given = write_play(event, &mut sink);
+    Ok(given.is_ok() && holds(alloc, &sink, text)?)
+}
+
+// Whether an event of a script is written so, in one give.
+fn is_scripted(alloc: Global, event: &ScriptEvent, text: &str) -> Result<bool, OutOfMemory>
+    requires { FitsSomeHead event.now }
+{
+    let mut sink = MemorySink::new(alloc, 60, &[(1, 0)])?;
+    let given = write_script(event, &mut sink);
+    Ok(given.is_ok() && holds(alloc, &sink, text)?)
+}
+
+#[test]
+fn heads_and_the_end_mark_have_their_octets(rt: HostRuntime) -> Result<(), Fail> {
+    let widest = Head {
+        filers: 64,
+        g: 10,
+        delay: 1023,
+    };
+    let mut sink = MemorySink::new(rt.alloc(), 38, &[(4, 0)])?;
+    assert!(rt; write_play_head(&widest, &mut sink).is_ok());
+    assert!(rt; write_script_head(&widest, &mut sink).is_ok());
+    assert!(rt; write_filer_head(&widest, 63, &mut sink).is_ok());
+    assert!(rt; write_end(&mut sink).is_ok());
+    let text = "player 400A03FF script 400A03FF filer 400A03FF 3F FF";
+    assert!(rt; holds(rt.alloc(), &sink, text)?);
+    Ok(())
+}
+
+#[test]
+fn each_event_of_a_player_has_its_octets(rt: HostRuntime) -> Result<(), Fail> {
+    let frame = frame()?;
+    let base = PlayEvent::Base { base: 1000 };
+    assert!(rt; is_played(rt.alloc(), &play_event_of(Item::Idle), "10")?);
+    assert!(rt; is_played(rt.alloc(), &base, "11 000003E8")?);
+    assert!(rt; is_played(rt.alloc(), &play_event_of(Item::Erasure), "12")?);
+    assert!(rt; is_played(rt.alloc(), &play_event_of(Item::Frame(frame)), "13 frame")?);
+    Ok(())
+}
+
+#[test]
+fn each_event_of_a_filer_has_its_octets(rt: HostRuntime) -> Result<(), Fail> {
+    let asked = Asked2 {
+        said: 1000,
+        held: 258,
+    };
+    let refused = FilerEvent::Refused {
+        code: 7,
+        detail: 13,
+    };
+    let stranger = FilerEvent::Stranger { ssrc: 1, held: 2 };
+    let source = FilerEvent::Source(asked);
+    let base = FilerEvent::Base(asked);
+    assert!(rt; is_filed(rt.alloc(), &source, "20 000003E8 00000102")?);
+    assert!(rt; is_filed(rt.alloc(), &base, "21 000003E8 00000102")?);
+    assert!(rt; is_filed(rt.alloc(), &refused, "26 07 000D")?);
+    assert!(rt; is_filed(rt.alloc(), &FilerEvent::Rtcp, "27")?);
+    assert!(rt; is_filed(rt.alloc(), &stranger, "28 00000001 00000002")?);
+    assert!(rt; is_filed(rt.alloc(), &FilerEvent::Empty, "29")?);
+    Ok(())
+}
+
+#[test]
+fn each_reply_has_its_octets(rt: HostRuntime) -> Result<(), Fail> {
+    let frame = frame()?;
+    let number = 4294967299;
+    let accepted = FilerEvent::File {
+        number,
+        frame,
+        reply: FileReply::Accepted,
+    };
+    assert!(rt; is_filed(rt.alloc(), &accepted, "22 0000000100000003 frame")?);
+    let late = FilerEvent::File {
+        number,
+        frame,
+        reply: FileReply::Late { ahead: 4294967300 },
+    };
+    let text = "24 0000000100000003 frame 0000000100000004";
+    assert!(rt; is_filed(rt.alloc(), &late, text)?);
+    Ok(())
+}
+
+#[test]
+fn each_event_of_a_script_has_its_octets(rt: HostRuntime) -> Result<(), Fail> {
+    let frame = frame()?;
+    let event = ScriptEvent::File {
+        caller: 0,
+        number: 4294967360,
+        frame,
+    };
+    assert!(rt; is_scripted(rt.alloc(), &event, "02 00 0000000100000040 frame")?);
+    assert!(rt; is_scripted(rt.alloc(), &ScriptEvent::Tick, "01")?);
+    assert!(rt; is_scripted(rt.alloc(), &ScriptEvent::Beat, "04")?);
     let octets = Packet::of(b"\xAB\xCD");
-    assert_eq!(rt; octets.octets(), b"\xAB\xCD".as_slice());
-    let event = ScriptEvent::Datagram {
+    assert!(rt; octets.octets().len() == 2);
+    let datagram = ScriptEvent::Datagram {
         caller: 0,
         at: 7,
         octets,
     };
-    assert_eq!(rt; write_script(&event, &mut sink), Ok(()));
-    assert_eq!(rt; write_script(&ScriptEvent::Beat, &mut sink), Ok(()));
-    assert_eq!(rt;
-        sink.octets(),
-        b"\x03\0\0\0\0\x07\0\x02\xAB\xCD\x04".as_slice()
-    );
+    assert!(rt; is_scripted(rt.alloc(), &datagram, "03 00 00000007 0002 ABCD")?);
     Ok(())
 }

@@ -1,5 +1,5 @@
 -- A step of the rule closes no lawful way, and where it has no step there is none.
-use Rattle.std.proofs.Common.{◌≡◌, ◌≢◌, ◌⊎◌, inl, inr, ⊎_elim, ℕ, ◌+◌, ◌<◌, ◌≤◌, eqb, eq-eqb, ne_eqb, List, [], ◌∷◌, Option, Some, None, is_some, refl, sym, ap, ◌∙◌, subst, arith}
+use Rattle.std.proofs.Common.{◌≡◌, ◌≢◌, inl, inr, ℕ, ◌<◌, ◌≤◌, eqb, eq-eqb, ne_eqb, List, [], ◌∷◌, Option, Some, None, is_some, refl, sym, ap, ◌∙◌, subst, arith}
 use native.Mathlib.Decide.{ℕ_discrete}
 use Rattle.std.proofs.lemmas.Bool.{cases_lt}
 use mathlib.Core.Bool.{Bool, cond, true, false}
@@ -8,8 +8,8 @@ use Rattle.play_machine.specs.declared.call.Call.{Call}
 use Rattle.play_machine.specs.declared.call.Call.TheVariants.{FileCall, SourceCall, BaseCall, PeekCall, TickCall}
 use Rattle.play_machine.specs.Machine.{Machine, opening_machine, Replies, after}
 use Rattle.play_machine.specs.History.{Entry, entry, IsLegal, calls_of}
-use Rattle.replay_check.specs.Verdict.{Lists, AllAtMost, IsHistory, Lawful, HasOrder, whos}
-use Rattle.replay_check.specs.Rule.{RuleDecides, IsFilers, AllFilers, IsLater, AllLater, IsPlayers, AreJournals, IsNext, Can, IsPeek, CanPeek, NoneCan, IsTaken, without, Follows, NothingLeft, IsStuck, RuleIsExact}
+use Rattle.replay_check.specs.Verdict.{Lists, AllAtMost, IsHistory, Lawful, HasOrder}
+use Rattle.replay_check.specs.Rule.{RuleDecides, IsFilers, AllFilers, IsLater, AllLater, IsPlayers, AreJournals, IsNext, Can, IsPeek, CanPeek, IsTaken, without, Follows, NothingLeft, IsStuck, RuleIsExact}
 use Rattle.replay_check.proofs.Removed.{removed, removed-own, removed-others, removed-callers, calls_of-head, calls_of-skip, same_head, same_tail, not_empty}
 use Rattle.replay_check.proofs.Sooner.{Open, sooner}
 

@@ -5,7 +5,7 @@ pub mod Greedy
 pub mod OneOrder
 pub mod Places
 pub mod Sofar
-pub mod AllLists
+pub mod Recordings
 pub mod Numbered
 pub mod Playing
 pub mod Rendered

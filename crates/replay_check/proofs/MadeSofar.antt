@@ -1,5 +1,5 @@
 -- What the rounds of a script that is made keep.
-use Rattle.std.proofs.Common.{◌≡◌, ℕ, zero, suc, ◌+◌, ◌-◌, ◌*◌, ◌≤◌, ◌<◌, ◌^◌, List, [], ◌∷◌, ◌++◌, length, Option, Result, Ok, Err, refl, sym, ap, subst, ◌∙◌, append_assoc, append-nil, arith}
+use Rattle.std.proofs.Common.{◌≡◌, ℕ, zero, suc, ◌+◌, ◌-◌, ◌≤◌, ◌<◌, ◌^◌, List, [], ◌∷◌, ◌++◌, Option, refl, sym, ap, subst, ◌∙◌, append_assoc, append-nil, arith}
 use Rattle.std.specs.List.{flat_map}
 use Rattle.std.specs.Io.KnownBytes.{Appends}
 use Rattle.std.proofs.lemmas.List.Concat.{flat_map-append}
@@ -7,7 +7,6 @@ use Rattle.std.proofs.lemmas.Bool.{eq-eqb, ne_eqb}
 use Rattle.std.proofs.KnownBytes.{Appends-trans}
 use Rattle.gate_io.specs.Flow.{AppendsPart}
 use Rattle.gate_io.specs.FlowLaws.{AppendsPart-after, AppendsPart-longer}
-use Rattle.frame_codec.specs.declared.item.Item.{Item}
 use Rattle.play_machine.specs.declared.reply.FileReply.{FileReply}
 use Rattle.play_machine.specs.declared.reply.FileReply.TheVariants.{Accepted, Duplicate, Late, Beyond}
 use Rattle.play_machine.specs.declared.call.Call.{Call}
@@ -24,7 +23,7 @@ use Rattle.recorder.specs.Script.{event_text, script_text}
 use Rattle.recorder.specs.Tallies.{call_items, call_replies, play_tally, reply_tally, item_counted, reply_counted}
 use Rattle.recorder.specs.TallyLaws.{play_tally-more, reply_tally-more}
 use Rattle.replay_check.specs.Generator.{made_events, made_file, made_heading, made_script, seed_key}
-use Rattle.replay_check.specs.Made.{AreCallsOf, AreCalls, AreTallies}
+use Rattle.replay_check.specs.Made.{AreCalls, AreTallies}
 use Rattle.replay_check.specs.Plays.{Plays}
 use Rattle.replay_check.specs.declared.played.Played.{Played}
 

@@ -1,5 +1,5 @@
 -- Two orders of the rule that have come to their ends are equal.
-use Rattle.std.proofs.Common.{◌≡◌, ◌⊎◌, inl, inr, ℕ, ◌<◌, ◌≤◌, ◌+◌, List, [], ◌∷◌, refl, sym, ap, ◌∙◌, subst, arith}
+use Rattle.std.proofs.Common.{◌≡◌, inl, inr, ℕ, ◌≤◌, List, [], ◌∷◌, refl, sym, ap, ◌∙◌, subst}
 use Rattle.play_machine.specs.declared.call.Call.{Call}
 use Rattle.play_machine.specs.Machine.{Machine, opening_machine, after}
 use Rattle.replay_check.specs.Verdict.{Lists}

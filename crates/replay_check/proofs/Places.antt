@@ -1,13 +1,11 @@
 -- What stands next in each list, and what a test of it says.
-use Rattle.std.proofs.Common.{◌≡◌, ◌≢◌, ◌↔◌, ℕ, zero, suc, ◌+◌, ◌<◌, ◌≤◌, List, [], ◌∷◌, length, drop, get_or, set, Option, Some, None, IsTrue, slice_get, lit<, refl, sym, ap, ◌∙◌, subst, arith}
+use Rattle.std.proofs.Common.{◌≡◌, ℕ, zero, suc, ◌+◌, ◌<◌, ◌≤◌, List, [], ◌∷◌, length, drop, get_or, Some, None, refl, sym, ap, ◌∙◌, subst, arith}
 use native.Mathlib.Decide.{ℕ_discrete}
-use Rattle.std.specs.Prelude.{Vec}
-use Rattle.std.specs.Global.{Global}
 use Rattle.play_machine.specs.declared.call.Call.{Call}
 use Rattle.play_machine.specs.Machine.{Machine, Replies}
 use Rattle.replay_check.specs.Verdict.{Lists}
 use Rattle.replay_check.specs.Rule.{IsNext, Can, IsPeek, CanPeek}
-use Rattle.replay_check.specs.Lists.{list_of, left_of, first_of}
+use Rattle.replay_check.specs.Lists.{first_of}
 use Rattle.replay_check.proofs.Removed.{same_head, not_empty}
 
 pub first-within : (l : List Call) (i : ℕ) (x : Call) → i < length l → x ≡ get_or l i x → Some x ≡ first_of (drop i l)
@@ -20,11 +18,6 @@ first-past [] zero past = refl
 first-past [] (suc i) past = refl
 first-past (y ∷ l) zero past = absurd (omega arith)
 first-past (y ∷ l) (suc i) past = first-past l i (omega arith)
-
-pub list_of-at : (vs : List (Vec Call Global)) (k : ℕ) (d : Vec Call Global) → k < length vs → list_of vs k ≡ (get_or vs k d).items
-list_of-at [] k d below = absurd (omega arith)
-list_of-at (v ∷ vs) zero d below = refl
-list_of-at (v ∷ vs) (suc k) d below = list_of-at vs k d (omega arith)
 
 -- a list by its first call
 pub first-some : (l : List Call) (c : Call) → Some c ≡ first_of l → (rest : List Call) × (l ≡ c ∷ rest)
@@ -55,19 +48,3 @@ none-more {P} n below here k less = go (ℕ_discrete k n)
     go : Dec (k ≡ n) → P k → ⊥
     go (yes same) can = here (subst P same can)
     go (no other) can = below k (omega arith) can
-
-pub next-within : (vs : List (Vec Call Global)) (k place : ℕ) (v : Vec Call Global) (x : Call) → k < length vs → v ≡ get_or vs k v → place < length v.items → x ≡ get_or v.items place x → Some x ≡ first_of (drop place (list_of vs k))
-next-within vs k place v x below is less value =
-    first-within v.items place x less value ∙ ap (λ (l : List Call). first_of (drop place l)) (ap (λ (w : Vec Call Global). w.items) is ∙ sym (list_of-at vs k v below))
-
-pub next-past : (vs : List (Vec Call Global)) (k place : ℕ) (v : Vec Call Global) → k < length vs → v ≡ get_or vs k v → length v.items ≤ place → None ≡ first_of (drop place (list_of vs k))
-next-past vs k place v below is past =
-    first-past v.items place past ∙ ap (λ (l : List Call). first_of (drop place l)) (ap (λ (w : Vec Call Global). w.items) is ∙ sym (list_of-at vs k v below))
-
-pub length_at : (vs : List (Vec Call Global)) (k : ℕ) (v : Vec Call Global) → k < length vs → v ≡ get_or vs k v → length (list_of vs k) ≡ length v.items
-length_at vs k v below is = ap length (list_of-at vs k v below ∙ sym (ap (λ (w : Vec Call Global). w.items) is))
-
-pub small_list : (vs : List (Vec Call Global)) (k : ℕ) → length (list_of vs k) < 18446744073709551616
-small_list [] k = lit< tt
-small_list (v ∷ vs) zero = omega (arith, v.small, v.ok.0)
-small_list (v ∷ vs) (suc k) = small_list vs k

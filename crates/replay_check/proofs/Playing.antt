@@ -1,5 +1,5 @@
 -- What the loop over a journal's events keeps.
-use Rattle.std.proofs.Common.{◌≡◌, ℕ, ◌+◌, ◌≤◌, ◌<◌, List, [], ◌∷◌, ◌++◌, length, Bool, true, Option, Some, None, Ok, Err, refl, sym, ap, subst, ◌∙◌, append_assoc, append-nil, length-append, arith}
+use Rattle.std.proofs.Common.{◌≡◌, ℕ, ◌≤◌, ◌<◌, List, [], ◌∷◌, ◌++◌, length, Bool, true, Option, Some, None, Ok, refl, sym, ap, subst, ◌∙◌, append_assoc, append-nil, length-append, arith}
 use Rattle.std.specs.Prelude.{ℤ, IfSome}
 use Rattle.std.specs.List.{flat_map}
 use Rattle.std.specs.Int.{w16, cast_unsigned}
@@ -15,13 +15,12 @@ use Rattle.recorder.specs.declared.fault.RecordFault.{RecordFault}
 use Rattle.recorder.specs.declared.tally.PlayTally.{PlayTally}
 use Rattle.recorder.specs.Files.{end_mark, event_limit}
 use Rattle.recorder.specs.Heads.{Heading, IsHeading, head_text, play_magic}
-use Rattle.recorder.specs.Journals.{PlayerRecord, PlayerRecordFits, opening_behind, player_front}
+use Rattle.recorder.specs.Journals.{PlayerRecord, opening_behind, player_front}
 use Rattle.recorder.specs.Play.{AllPlayFit, PlayFits, may_open, play_event_text, play_fault_at}
 use Rattle.recorder.specs.Reader.{PlayProgress, stepped_play}
 use Rattle.recorder.specs.Tallies.{play_tally}
 use Rattle.substitution.specs.Heard.{Sounding, Voices, sample_octets}
 use Rattle.replay_check.specs.Render.{Follows, Played, event_items, items_of}
-use Rattle.replay_check.specs.declared.rendering.RenderEnd.{RenderEnd}
 use Rattle.replay_check.specs.declared.rendering.RenderEnd.TheVariants.{Done, Refused, ReadFault, WriteFault}
 
 abbrev pub journal : Heading → List PlayEvent → PlayerRecord

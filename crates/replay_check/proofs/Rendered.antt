@@ -1,13 +1,13 @@
 -- From the loop over the events to the whole journal.
-use Rattle.std.proofs.Common.{◌≡◌, ℕ, List, ◌++◌, Option, Some, None, refl, sym, ap, subst, ◌∙◌, append_assoc, inl, inr}
-use Rattle.std.specs.Prelude.{ℤ, IfSome, ◌⊎◌, take}
+use Rattle.std.proofs.Common.{◌≡◌, ℕ, List, ◌++◌, Option, Some, None, sym, ap, subst, ◌∙◌, append_assoc, inl, inr}
+use Rattle.std.specs.Prelude.{ℤ, IfSome, take}
 use Rattle.std.specs.List.{flat_map}
 use Rattle.std.specs.Io.KnownBytes.{Consumes}
 use Rattle.recorder.specs.declared.fault.RecordFault.{RecordFault}
 use Rattle.recorder.specs.Heads.{Heading, head_fault, head_text, play_magic}
-use Rattle.recorder.specs.Journals.{HasPlayerFault, IsPlayerJournal, PlayerRecord, PlayersHaveNoFault, player_front}
+use Rattle.recorder.specs.Journals.{HasPlayerFault, PlayerRecord, PlayersHaveNoFault, player_front}
 use Rattle.recorder.specs.Play.{play_event_text}
-use Rattle.replay_check.specs.Render.{Completes, Follows, NothingPlayed, Played, Renders}
+use Rattle.replay_check.specs.Render.{Completes, Follows, Played, Renders}
 use Rattle.replay_check.specs.declared.rendering.RenderEnd.{RenderEnd}
 use Rattle.replay_check.specs.declared.rendering.RenderEnd.TheVariants.{Refused}
 

@@ -1,8 +1,6 @@
 -- What the loop that follows the rule keeps.
-use Rattle.std.proofs.Common.{◌≡◌, ◌≢◌, ℕ, zero, suc, ◌+◌, ◌-◌, ◌<◌, ◌≤◌, List, [], ◌∷◌, ◌++◌, length, drop, get_or, set, slice_index, None, refl, sym, ap, ◌∙◌, subst, inl, inr, arith, ◌^◌, get_or-set_other, get_or-set_same}
+use Rattle.std.proofs.Common.{◌≡◌, ◌≢◌, ℕ, zero, suc, ◌+◌, ◌<◌, ◌≤◌, List, [], ◌∷◌, ◌++◌, length, drop, get_or, set, slice_index, None, refl, sym, ap, ◌∙◌, subst, inl, inr, arith, ◌^◌, get_or-set_other, get_or-set_same}
 use native.Mathlib.Decide.{ℕ_discrete}
-use Rattle.std.specs.Prelude.{Vec}
-use Rattle.std.specs.Global.{Global}
 use Rattle.play_machine.specs.declared.reply.FileReply.{FileReply}
 use Rattle.play_machine.specs.declared.reply.FileReply.TheVariants.{Accepted, Duplicate, Late, Beyond}
 use Rattle.play_machine.specs.declared.call.Call.{Call}
@@ -10,8 +8,10 @@ use Rattle.play_machine.specs.declared.call.Call.TheVariants.{FileCall, SourceCa
 use Rattle.replay_check.specs.Making.{IsMakeable}
 use Rattle.play_machine.specs.Machine.{Machine, opening_machine, after}
 use Rattle.replay_check.specs.Verdict.{Lists, Lawful, HasOrder}
-use Rattle.replay_check.specs.Rule.{IsNext, Can, CanPeek, IsTaken, without, Follows, NothingLeft, IsStuck, AreJournals, IsFilers, AllFilers, IsPlayers}
-use Rattle.replay_check.specs.Lists.{list_of, left_of, count_left}
+use Rattle.replay_check.specs.Rule.{IsNext, Can, IsTaken, without, Follows, NothingLeft, IsStuck, AreJournals, IsFilers, AllFilers, IsPlayers}
+use Rattle.recorder.specs.Journals.{FilerRecord, PlayerRecord}
+use Rattle.replay_check.specs.Journals.{filer_calls, journal_lists, plays_in}
+use Rattle.replay_check.specs.Lists.{left_of, count_left}
 use Rattle.replay_check.proofs.Removed.{same_tail, not_empty}
 use Rattle.replay_check.proofs.Greedy.{without-own, without-others, follows-lawful, follows-unlawful, rest-players}
 
@@ -66,21 +66,22 @@ sofar-more r filers lists m at order who c rest below sofar taken next = record 
     go k (no other) = subst (λ n. n ≤ length (lists k)) (sym (get_or-set_other at who k (slice_index at who + 1) 0 other)) (sofar.within k)
 
 -- each step leaves fewer calls
-pub fewer_left : (vs : List (Vec Call Global)) (at : List ℕ) (who : ℕ) (c : Call) (rest : List Call) → who < length at → left_of (list_of vs) at who ≡ c ∷ rest → count_left vs (set at who (slice_index at who + 1)) < count_left vs at
-fewer_left [] at who c rest below is = absurd (none (slice_index at who) is)
+pub fewer_left : (fs : List FilerRecord) (p : PlayerRecord) (at : List ℕ) (who : ℕ) (c : Call) (rest : List Call) → who < length at → left_of (journal_lists fs p) at who ≡ c ∷ rest → count_left fs p (set at who (slice_index at who + 1)) < count_left fs p at
+fewer_left fs p [] who c rest below is = absurd (omega arith)
+fewer_left [] p (a ∷ at) zero c rest below is = let w = drop-within (plays_in p.events) a c rest is in omega arith
+fewer_left [] p (a ∷ at) (suc who) c rest below is = absurd (none (slice_index at who) is)
   where
     none : (n : ℕ) → drop n [] ≡ c ∷ rest → ⊥
     none zero is = not_empty is
     none (suc n) is = not_empty is
-fewer_left (v ∷ vs) [] who c rest below is = absurd (omega arith)
-fewer_left (v ∷ vs) (a ∷ at) zero c rest below is = let w = drop-within v.items a c rest is in omega arith
-fewer_left (v ∷ vs) (a ∷ at) (suc who) c rest below is = let ih = fewer_left vs at who c rest (omega arith) is in omega arith
+fewer_left (f ∷ fs) p (a ∷ at) zero c rest below is = let w = drop-within (filer_calls f) a c rest is in omega arith
+fewer_left (f ∷ fs) p (a ∷ at) (suc who) c rest below is = let ih = fewer_left fs p at who c rest (omega arith) is in omega arith
 
-pub fewer_step : (vs : List (Vec Call Global)) (at : List ℕ) (who n : ℕ) (c : Call) (rest : List Call) → who < length at → n ≡ slice_index at who → left_of (list_of vs) at who ≡ c ∷ rest → count_left vs (set at who (n + 1)) < count_left vs at
-fewer_step vs at who n c rest below value is = subst (λ k. count_left vs (set at who (k + 1)) < count_left vs at) (sym value) (fewer_left vs at who c rest below is)
+pub fewer_step : (fs : List FilerRecord) (p : PlayerRecord) (at : List ℕ) (who n : ℕ) (c : Call) (rest : List Call) → who < length at → n ≡ slice_index at who → left_of (journal_lists fs p) at who ≡ c ∷ rest → count_left fs p (set at who (n + 1)) < count_left fs p at
+fewer_step fs p at who n c rest below value is = subst (λ k. count_left fs p (set at who (k + 1)) < count_left fs p at) (sym value) (fewer_left fs p at who c rest below is)
 
-pub room_step : (vs : List (Vec Call Global)) (at : List ℕ) (who n : ℕ) (c : Call) (rest : List Call) → n ≡ slice_index at who → left_of (list_of vs) at who ≡ c ∷ rest → n + 1 ≤ length (list_of vs who)
-room_step vs at who n c rest value is = let w = drop-within (list_of vs who) (slice_index at who) c rest is in omega (arith, value)
+pub room_step : (lists : Lists) (at : List ℕ) (who n : ℕ) (c : Call) (rest : List Call) → n ≡ slice_index at who → left_of lists at who ≡ c ∷ rest → n + 1 ≤ length (lists who)
+room_step lists at who n c rest value is = let w = drop-within (lists who) (slice_index at who) c rest is in omega (arith, value)
 
 pub sofar-step : (r q filers : ℕ) (lists : Lists) (m m' : Machine) (at order order' : List ℕ) (who n : ℕ) (c : Call) (rest : List Call) → q ≡ r → who < length at → Sofar r filers lists m at order → IsTaken q filers m (left_of lists at) who → IsNext q m (left_of lists at) who c rest
     → n ≡ slice_index at who → m' ≡ after m c → order' ≡ order ++ who ∷ [] → Sofar r filers lists m' (set at who (n + 1)) order'

@@ -1,8 +1,7 @@
 -- Where a call may go first, the history without it is legal behind it.
-use Rattle.std.proofs.Common.{◌≡◌, ◌≢◌, ◌⊎◌, inl, inr, ℕ, ◌+◌, ◌<◌, ◌≤◌, List, [], ◌∷◌, Option, Some, None, is_some, true, refl, sym, ap, ◌∙◌, subst, arith}
+use Rattle.std.proofs.Common.{◌≡◌, ◌≢◌, ℕ, ◌+◌, ◌≤◌, List, [], ◌∷◌, Option, Some, None, is_some, true, refl, sym, ap, ◌∙◌, subst, arith}
 use native.Mathlib.Decide.{ℕ_discrete}
 use Rattle.std.specs.FinMap as map
-use Rattle.play_machine.specs.declared.reply.FileReply.{FileReply}
 use Rattle.play_machine.specs.declared.reply.FileReply.TheVariants.{Accepted, Duplicate, Late, Beyond}
 use Rattle.play_machine.specs.declared.call.Call.{Call}
 use Rattle.play_machine.specs.declared.call.Call.TheVariants.{FileCall, SourceCall, BaseCall, PeekCall, TickCall}

@@ -1,18 +1,36 @@
--- The lists as they are kept, and how far each caller has come.
-use Rattle.std.specs.Prelude.{ℕ, zero, suc, ◌+◌, ◌-◌, List, [], ◌∷◌, length, drop, Option, Some, None, slice_index, Vec}
+-- The journals whose calls are judged, where the calls stand in them, and how far each caller has come.
+use Rattle.std.specs.Prelude.{ℕ, zero, suc, ◌≡◌, ◌+◌, ◌-◌, List, [], ◌∷◌, length, drop, map, Option, Some, None, slice_index, Vec}
 use Rattle.std.specs.Global.{Global}
 use Rattle.play_machine.specs.declared.call.Call.{Call}
+use Rattle.recorder.specs.declared.events.FilerEvent.{FilerEvent}
+use Rattle.recorder.specs.Journals.{FilerRecord, PlayerRecord}
+use Rattle.replay_check.specs.Journals.{call_of, calls_in, filer_calls, journal_lists, plays_in}
 use Rattle.replay_check.specs.Verdict.{Lists}
 
--- the list at a place is that of the caller with this number
-abbrev pub list_of : List (Vec Call Global) → Lists
-list_of [] k = []
-list_of (v ∷ vs) zero = v.items
-list_of (v ∷ vs) (suc k) = list_of vs k
+pub record Recording : Type 0 where
+  pub filers : List FilerRecord
+  pub player : PlayerRecord
 
-abbrev pub items_of : List (Vec Call Global) → List (List Call)
-items_of [] = []
-items_of (v ∷ vs) = v.items ∷ items_of vs
+-- the calls of each caller
+abbrev pub list_of : Recording → Lists
+list_of r = journal_lists r.filers r.player
+
+-- the call of the event at this place, where it is one
+abbrev pub call_at : List FilerEvent → ℕ → Option Call
+call_at [] p = None
+call_at (e ∷ es) zero = call_of e
+call_at (e ∷ es) (suc p) = call_at es p
+
+-- the events at these places are all calls, in their order
+abbrev pub AreCallsAt : List FilerEvent → List ℕ → Type 0
+AreCallsAt events places = map (call_at events) places ≡ map (λ c. Some c) (calls_in events)
+
+-- for each filer these are the places of its calls
+abbrev pub AllCallsAt : List FilerRecord → List (Vec ℕ Global) → Type 0
+AllCallsAt [] [] = Unit {0}
+AllCallsAt [] (v ∷ vs) = ⊥
+AllCallsAt (f ∷ fs) [] = ⊥
+AllCallsAt (f ∷ fs) (v ∷ vs) = AreCallsAt f.events v.items × AllCallsAt fs vs
 
 -- what is left where so many calls of each caller were taken
 abbrev pub left_of : Lists → List ℕ → Lists
@@ -22,8 +40,9 @@ abbrev pub first_of : List Call → Option Call
 first_of [] = None
 first_of (c ∷ cs) = Some c
 
--- how many calls are left
-abbrev pub count_left : List (Vec Call Global) → List ℕ → ℕ
-count_left [] at = 0
-count_left (v ∷ vs) [] = length v.items + count_left vs []
-count_left (v ∷ vs) (a ∷ at) = (length v.items - a) + count_left vs at
+-- how many calls of the filers and of the player are left
+abbrev pub count_left : List FilerRecord → PlayerRecord → List ℕ → ℕ
+count_left [] p [] = length (plays_in p.events)
+count_left [] p (a ∷ at) = length (plays_in p.events) - a
+count_left (f ∷ fs) p [] = length (filer_calls f) + count_left fs p []
+count_left (f ∷ fs) p (a ∷ at) = (length (filer_calls f) - a) + count_left fs p at

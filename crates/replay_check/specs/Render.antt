@@ -7,7 +7,6 @@ use Rattle.frame_codec.specs.declared.item.Item.{Item}
 use Rattle.frame_codec.specs.declared.item.Item.TheVariants as items
 use Rattle.recorder.specs.declared.events.PlayEvent.{PlayEvent}
 use Rattle.recorder.specs.declared.events.PlayEvent.TheVariants.{Idle, Base, Erasure, Frame}
-use Rattle.recorder.specs.declared.tally.PlayTally.{PlayTally}
 use Rattle.recorder.specs.Files.{end_mark}
 use Rattle.recorder.specs.Heads.{head_fault, play_magic}
 use Rattle.recorder.specs.Journals.{IsPlayerJournal, PlayerRecord, PlayerRecordFits, opening_behind, player_front}

@@ -1,5 +1,5 @@
 -- The rule that takes the calls of the lists one by one.
-use Rattle.std.specs.Prelude.{◌≡◌, ◌≢◌, ◌⊎◌, ℕ, ◌+◌, ◌^◌, ◌<◌, ◌≤◌, ◌==◌, List, [], ◌∷◌, length, Option, Some, None, if◌then◌else◌}
+use Rattle.std.specs.Prelude.{◌≡◌, ◌≢◌, ◌⊎◌, ℕ, ◌+◌, ◌^◌, ◌<◌, ◌≤◌, ◌==◌, List, [], ◌∷◌, length, Some, None, if◌then◌else◌}
 use Rattle.play_machine.specs.declared.call.Call.{Call}
 use Rattle.play_machine.specs.declared.call.Call.TheVariants.{FileCall, SourceCall, BaseCall, PeekCall, TickCall}
 use Rattle.play_machine.specs.Machine.{Machine, opening_machine, Replies, after}

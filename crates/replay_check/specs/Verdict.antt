@@ -1,7 +1,7 @@
 -- Lists of calls that come from one line: what is asked of them, and what is answered.
-use Rattle.std.specs.Prelude.{◌≡◌, ◌≢◌, ℕ, ◌+◌, ◌<◌, ◌≤◌, ◌==◌, List, [], ◌∷◌, length, if◌then◌else◌}
+use Rattle.std.specs.Prelude.{◌≡◌, ℕ, ◌≤◌, List, [], ◌∷◌}
 use Rattle.play_machine.specs.declared.call.Call.{Call}
-use Rattle.play_machine.specs.Machine.{Machine, opening_machine}
+use Rattle.play_machine.specs.Machine.{Machine}
 use Rattle.play_machine.specs.History.{Entry, IsLegal, calls_of}
 
 -- the calls of each caller, by its number

@@ -3,13 +3,13 @@
 
 mod heads;
 mod laws;
-mod lists;
 mod made;
 mod make;
 mod making;
 mod order;
 mod pick;
 mod played;
+mod recorded;
 mod rendering;
 mod replay;
 mod round;

@@ -2,24 +2,10 @@
 ghost use Rattle.std.specs.Prelude.{ℕ, ◌≡◌, ◌<◌, ◌≤◌, ◌-◌, ◌+◌, ◌^◌, ◌↔◌, List, IsTrue, length, MatchOption};
 ghost use Rattle.play_machine.specs.declared.call.Call.{Call};
 ghost use Rattle.replay_check.specs.Rule.{Can, CanPeek, IsNext, IsPeek, IsTaken, NoneCan};
-ghost use Rattle.replay_check.specs.Lists.{first_of, left_of, list_of};
+ghost use Rattle.replay_check.specs.Lists.{left_of, list_of};
 
+use crate::recorded::Recorded;
 use play_machine::{Call, MapLine};
-
-// The next call of a caller.
-fn next_of(lists: &[Vec<Call>], at: &[usize], who: usize) -> Option<Call>
-    requires lists { who < length lists.now }
-    requires at { who < length at.now }
-    ensures { result ≡ first_of (left_of (list_of lists.now) at.now who) }
-{
-    let calls = &lists[who];
-    let place = at[who];
-    if place < calls.len() {
-        Some(calls[place])
-    } else {
-        None
-    }
-}
 
 fn is_peek(call: &Call) -> bool
     ensures { IsTrue result ↔ IsPeek call.now }
@@ -28,21 +14,21 @@ fn is_peek(call: &Call) -> bool
 }
 
 // A caller's next call, where it is possible.
-fn possible(line: &MapLine, lists: &[Vec<Call>], at: &[usize], who: usize) -> Option<Call>
-    requires lists { who < length lists.now }
+fn possible(line: &MapLine, lists: &Recorded<'_>, at: &[usize], who: usize) -> Option<Call>
+    requires lists { who ≤ length lists.now.filers }
     requires at { who < length at.now }
     ensures { MatchOption result (Can (2 ^ line.now.g) line.now.machine (left_of (list_of lists.now) at.now) who → ⊥)
         (λ call. (rest : List Call) × IsNext (2 ^ line.now.g) line.now.machine (left_of (list_of lists.now) at.now) who call rest) }
 {
-    match next_of(lists, at, who) {
+    match lists.call(who, at[who]) {
         Some(call) => { if line.can(&call) { Some(call) } else { None } }
         None => None,
     }
 }
 
 // The player's next call, where it is a peek and is possible.
-fn possible_peek(line: &MapLine, lists: &[Vec<Call>], at: &[usize], player: usize) -> Option<Call>
-    requires lists { player < length lists.now }
+fn possible_peek(line: &MapLine, lists: &Recorded<'_>, at: &[usize], player: usize) -> Option<Call>
+    requires lists { player ≤ length lists.now.filers }
     requires at { player < length at.now }
     ensures { MatchOption result (CanPeek (2 ^ line.now.g) player line.now.machine (left_of (list_of lists.now) at.now) → ⊥)
         (λ call. (rest : List Call) × IsNext (2 ^ line.now.g) line.now.machine (left_of (list_of lists.now) at.now) player call rest × IsPeek call) }
@@ -62,8 +48,8 @@ pub struct Choice {
 
 /// What the rule takes of the lists from these places on: a peek of the player, else a call of the lowest filer that
 /// has a possible one, else a call of the player.
-pub fn pick(line: &MapLine, lists: &[Vec<Call>], at: &[usize], player: usize) -> Option<Choice>
-    requires lists { player < length lists.now }
+pub fn pick(line: &MapLine, lists: &Recorded<'_>, at: &[usize], player: usize) -> Option<Choice>
+    requires lists { player ≤ length lists.now.filers }
     requires at { player < length at.now }
     ensures { MatchOption result (NoneCan (2 ^ line.now.g) (player + 1) line.now.machine (left_of (list_of lists.now) at.now))
         (λ p. IsTaken (2 ^ line.now.g) player line.now.machine (left_of (list_of lists.now) at.now) p.who

@@ -5,25 +5,24 @@ ghost use Rattle.replay_check.specs.Journals.{AreOfOneLine, journal_lists};
 ghost use Rattle.replay_check.specs.Rule.{AreJournals, IsVerdict};
 ghost use Rattle.replay_check.specs.Lists.{list_of};
 
-use crate::lists::all_lists;
 use crate::making::make;
 use crate::order::Order;
 use crate::pick::pick;
+use crate::recorded::Recorded;
 use crate::verdict::Verdict;
 use gate_base::OutOfMemory;
-use play_machine::{Call, MapLine};
+use play_machine::MapLine;
 use recorder::{FilerJournal, PlayerJournal};
 use std::alloc::Global;
 
 // The verdict on the lists of the filers, and the player's behind them, from the line's opening on.
-fn judge(alloc: Global, mut line: MapLine, lists: &[Vec<Call>]) -> Result<Verdict, OutOfMemory>
+fn judge(alloc: Global, mut line: MapLine, lists: &Recorded<'_>) -> Result<Verdict, OutOfMemory>
     requires opening { line.machine ≡ opening_machine }
     requires filers { 0 < line.filers }
-    requires some { 0 < length lists.now }
-    requires few { length lists.now ≤ 65 }
-    requires journals { AreJournals (length lists.now - 1) (list_of lists.now) }
-    requires short { length (list_of lists.now (length lists.now - 1)) ≤ 16777216 }
-    ensures { IfOk result (λ v. IsVerdict (2 ^ line.g) (length lists.now - 1) (list_of lists.now) v) }
+    requires few { length lists.now.filers ≤ 64 }
+    requires journals { AreJournals (length lists.now.filers) (list_of lists.now) }
+    requires short { (k : ℕ) → length (list_of lists.now k) ≤ 16777216 }
+    ensures { IfOk result (λ v. IsVerdict (2 ^ line.g) (length lists.now.filers) (list_of lists.now) v) }
 {
     let player = lists.len() - 1;
     let mut at: Vec<usize> = vec![in alloc; 0; lists.len()]?;
@@ -34,7 +33,7 @@ fn judge(alloc: Global, mut line: MapLine, lists: &[Vec<Call>]) -> Result<Verdic
         order.push(taken.who as u32)?;
     }
     'rest: for (who, place) in at.iter().enumerate() {
-        if *place < lists[who].len() {
+        if *place < lists.count(who) {
             return Ok(Verdict::Illegal {
                 caller: who as u32,
                 place: *place as u64,
@@ -60,7 +59,7 @@ pub fn verify(
     ensures { IfOk result (λ v. IsVerdict (2 ^ player.now.head.g) (length filers.now.items) (journal_lists filers.now.items player.now) v) }
 {
     let head = player.head();
-    let lists = all_lists(alloc, filers, player)?;
+    let lists = Recorded::of(alloc, filers, player)?;
     let line = MapLine::new(alloc, head.filers as u32, head.g as u32)?;
     judge(alloc, line, &lists)
 }

@@ -1,10 +1,9 @@
 // The verdict compared with a search over all interleavings of small lists, over a machine of two slots written here.
 use super::*;
-use crate::tests::{file, filer, passed, played, player, verdict_of_two};
-use std::alloc::Global;
+use crate::tests::{put_words, read_filer, read_player, verdict_of};
+use recorder::FilerJournal;
+use std::alloc::{AllocError, Global};
 use std::test::Fail;
-
-const START: u64 = 1 << 32;
 
 // A machine of two slots, whose numbers begin at 0. A base, a source and a frame are 0 where there is none.
 #[derive(Drop)]
@@ -83,6 +82,20 @@ fn code_at(codes: &[u8], at: u8) -> Option<u8> {
     }
 }
 
+// Whether the next call of a caller is answered so, where there is one. The player is caller 2.
+fn next_is_made(small: &mut Small, who: u32, codes: &[u8], at: &mut u8) -> bool {
+    let code = code_at(codes, *at);
+    *at = at.saturating_add(1);
+    match code {
+        None => true,
+        Some(code) => match who {
+            0 => filer_makes(small, 1, code),
+            1 => filer_makes(small, 2, code),
+            _ => player_makes(small, code),
+        },
+    }
+}
+
 // Whether all calls are answered so in the order whose callers are the digits of a number to the base of 3.
 fn runs(one: &[u8], two: &[u8], beats: &[u8], order: u32) -> bool {
     let mut small = Small {
@@ -94,33 +107,15 @@ fn runs(one: &[u8], two: &[u8], beats: &[u8], order: u32) -> bool {
     let (mut first, mut second, mut third) = (0u8, 0u8, 0u8);
     let mut digits = order;
     for _ in 0..6 {
-        let who = digits % 3;
-        digits /= 3;
-        let made = if who == 0 {
-            let code = code_at(one, first);
-            first = first.saturating_add(1);
-            match code {
-                Some(code) => filer_makes(&mut small, 1, code),
-                None => true,
-            }
-        } else if who == 1 {
-            let code = code_at(two, second);
-            second = second.saturating_add(1);
-            match code {
-                Some(code) => filer_makes(&mut small, 2, code),
-                None => true,
-            }
-        } else {
-            let code = code_at(beats, third);
-            third = third.saturating_add(1);
-            match code {
-                Some(code) => player_makes(&mut small, code),
-                None => true,
-            }
+        let made = match digits % 3 {
+            0 => next_is_made(&mut small, 0, one, &mut first),
+            1 => next_is_made(&mut small, 1, two, &mut second),
+            _ => next_is_made(&mut small, 2, beats, &mut third),
         };
         if !made {
             return false;
         }
+        digits /= 3;
     }
     first as usize >= one.len() && second as usize >= two.len() && third as usize >= beats.len()
 }
@@ -134,47 +129,62 @@ fn is_lawful(one: &[u8], two: &[u8], beats: &[u8]) -> bool {
     false
 }
 
+// The words of a filer's call. The frame of the first is xD1, and that of the second xD2.
+fn call_words(caller: u8, code: u8) -> &'static str {
+    match (code, caller) {
+        (0, _) => "21 00000001 00000001",
+        (1, _) => "21 00000002 00000001",
+        (2, 0) => "22 0000000100000000 xD1",
+        (2, _) => "22 0000000100000000 xD2",
+        (3, 0) => "22 0000000100000001 xD1",
+        (3, _) => "22 0000000100000001 xD2",
+        (4, 0) => "23 0000000100000000 xD1",
+        (4, _) => "23 0000000100000000 xD2",
+        (5, _) => "24 0000000100000000 xD0 0000000100000002",
+        (6, _) => "25 0000000100000002 xD0 0000000100000000",
+        (7, _) => "20 00000001 00000001",
+        _ => "20 00000002 00000001",
+    }
+}
+
+fn beat_words(code: u8) -> &'static str {
+    match code {
+        0 => "10",
+        1 => "11 00000001",
+        2 => "12",
+        3 => "13 xD1",
+        _ => "13 xD2",
+    }
+}
+
 // The octets of a filer's calls.
-fn filed(alloc: Global, caller: u8, codes: &[u8]) -> Result<Vec<u8>, OutOfMemory> {
-    let frame = if caller == 0 { 0xD1 } else { 0xD2 };
-    let mut octets = filer(alloc, 2, 1, caller)?;
+fn filed(alloc: Global, caller: u8, codes: &[u8]) -> Result<Vec<u8>, AllocError> {
+    let mut octets = Vec::new(alloc);
+    put_words(&mut octets, "filer 02010000")?;
+    octets.push(caller)?;
     for code in codes {
-        match *code {
-            0 => octets.extend_from_slice(b"\x21\0\0\0\x01\0\0\0\x01")?,
-            1 => octets.extend_from_slice(b"\x21\0\0\0\x02\0\0\0\x01")?,
-            2 => file(&mut octets, 0x22, START, frame)?,
-            3 => file(&mut octets, 0x22, START + 1, frame)?,
-            4 => file(&mut octets, 0x23, START, frame)?,
-            5 => passed(&mut octets, 0x24, START, START + 2)?,
-            6 => passed(&mut octets, 0x25, START + 2, START)?,
-            7 => octets.extend_from_slice(b"\x20\0\0\0\x01\0\0\0\x01")?,
-            _ => octets.extend_from_slice(b"\x20\0\0\0\x02\0\0\0\x01")?,
-        }
+        put_words(&mut octets, call_words(caller, *code))?;
     }
     Ok(octets)
 }
 
 // The octets of the player's calls.
-fn beaten(alloc: Global, codes: &[u8]) -> Result<Vec<u8>, OutOfMemory> {
-    let mut octets = player(alloc, 2, 1)?;
+fn beaten(alloc: Global, codes: &[u8]) -> Result<Vec<u8>, AllocError> {
+    let mut octets = Vec::new(alloc);
+    put_words(&mut octets, "player 02010000")?;
     for code in codes {
-        match *code {
-            0 => octets.extend_from_slice(b"\x10")?,
-            1 => octets.extend_from_slice(b"\x11\0\0\0\x01")?,
-            2 => octets.extend_from_slice(b"\x12")?,
-            3 => played(&mut octets, 0xD1)?,
-            _ => played(&mut octets, 0xD2)?,
-        }
+        put_words(&mut octets, beat_words(*code))?;
     }
     Ok(octets)
 }
 
 // Whether the verdict is that of the search.
 fn agrees(alloc: Global, one: &[u8], two: &[u8], beats: &[u8]) -> Result<bool, OutOfMemory> {
-    let mut first = filed(alloc, 0, one)?;
-    let mut second = filed(alloc, 1, two)?;
-    let mut third = beaten(alloc, beats)?;
-    match verdict_of_two(alloc, &mut first, &mut second, &mut third)? {
+    let mut filers: Vec<FilerJournal> = Vec::new(alloc);
+    filers.push(read_filer(alloc, &mut filed(alloc, 0, one)?)?)?;
+    filers.push(read_filer(alloc, &mut filed(alloc, 1, two)?)?)?;
+    let player = read_player(alloc, &mut beaten(alloc, beats)?)?;
+    match verdict_of(alloc, &filers, &player)? {
         Some(Verdict::Legal(_)) => Ok(is_lawful(one, two, beats)),
         Some(Verdict::Illegal { .. }) => Ok(!is_lawful(one, two, beats)),
         None => Ok(false),

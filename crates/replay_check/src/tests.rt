@@ -1,57 +1,58 @@
-// Journals are made of their octets and read back. Expected verdicts are of the rules, or of a search.
+// Journals are written as words and read back. Expected verdicts are of the rules, or of a search.
 use super::*;
 use gate_io::{MemorySink, MemorySource};
 use recorder::{FilerJournal, PlayerJournal};
-use std::alloc::Global;
+use std::alloc::{AllocError, Global};
 use std::test::Fail;
 
-const START: u64 = 1 << 32;
+// The value of a hexadecimal digit, in capitals.
+fn digit_value(digit: u8) -> u8 {
+    if digit <= b'9' {
+        digit.wrapping_sub(b'0')
+    } else {
+        digit.wrapping_sub(b'A' - 10)
+    }
+}
 
-const ACCEPTED: u8 = 0x22;
+fn octet_of(high: u8, low: u8) -> u8 {
+    digit_value(high)
+        .wrapping_mul(16)
+        .wrapping_add(digit_value(low))
+}
 
-const DUPLICATE: u8 = 0x23;
+fn put_digits(octets: &mut Vec<u8>, digits: &[u8]) -> Result<(), AllocError> {
+    for i in 0..digits.len() / 2 {
+        octets.extend_from_slice(&[octet_of(digits[2 * i], digits[2 * i + 1])])?;
+    }
+    Ok(())
+}
 
-// The octets of a journal of a line of so many filers and 2^g slots, up to its events.
-fn head(alloc: Global, magic: &[u8; 8], filers: u8, g: u8) -> Result<Vec<u8>, OutOfMemory> {
-    let mut octets: Vec<u8> = Vec::new(alloc);
-    octets.extend_from_slice(magic)?;
-    octets.extend_from_slice(&[filers, g, 0, 0])?;
+fn put_word(octets: &mut Vec<u8>, word: &[u8]) -> Result<(), AllocError> {
+    match word {
+        b"filer" => octets.extend_from_slice(b"GSMGFJ01"),
+        b"player" => octets.extend_from_slice(b"GSMGPJ01"),
+        [b'x', high, low] => octets.extend_from_slice(&[octet_of(*high, *low); 33]),
+        digits => put_digits(octets, digits),
+    }
+}
+
+/// Puts the octets that words write: hexadecimal digits, the magic of a journal, or a frame, all of whose octets have the
+/// two digits behind the `x`.
+pub fn put_words(octets: &mut Vec<u8>, text: &str) -> Result<(), AllocError> {
+    for word in text.split_whitespace() {
+        put_word(octets, word.as_bytes())?;
+    }
+    Ok(())
+}
+
+fn octets_of(alloc: Global, text: &str) -> Result<Vec<u8>, AllocError> {
+    let mut octets = Vec::new(alloc);
+    put_words(&mut octets, text)?;
     Ok(octets)
 }
 
-pub fn filer(alloc: Global, filers: u8, g: u8, caller: u8) -> Result<Vec<u8>, OutOfMemory> {
-    let mut octets = head(alloc, b"GSMGFJ01", filers, g)?;
-    octets.extend_from_slice(&[caller])?;
-    Ok(octets)
-}
-
-pub fn player(alloc: Global, filers: u8, g: u8) -> Result<Vec<u8>, OutOfMemory> {
-    head(alloc, b"GSMGPJ01", filers, g)
-}
-
-// An event of a filed frame, all of whose octets are this one.
-pub fn file(octets: &mut Vec<u8>, kind: u8, number: u64, frame: u8) -> Result<(), OutOfMemory> {
-    octets.extend_from_slice(&[kind])?;
-    octets.extend_from_slice(&number.to_be_bytes())?;
-    octets.extend_from_slice(&[frame; 33])?;
-    Ok(())
-}
-
-// The same, with the number that a Late (0x24) or a Beyond (0x25) tells.
-pub fn passed(octets: &mut Vec<u8>, kind: u8, number: u64, ahead: u64) -> Result<(), OutOfMemory> {
-    file(octets, kind, number, 0xD0)?;
-    octets.extend_from_slice(&ahead.to_be_bytes())?;
-    Ok(())
-}
-
-// The tick that plays such a frame.
-pub fn played(octets: &mut Vec<u8>, frame: u8) -> Result<(), OutOfMemory> {
-    octets.extend_from_slice(&[0x13])?;
-    octets.extend_from_slice(&[frame; 33])?;
-    Ok(())
-}
-
-fn read_filer(alloc: Global, octets: &mut Vec<u8>) -> Result<FilerJournal, OutOfMemory> {
+/// The filer's journal of these octets, up to its end mark.
+pub fn read_filer(alloc: Global, octets: &mut Vec<u8>) -> Result<FilerJournal, OutOfMemory> {
     octets.extend_from_slice(&[0xFF])?;
     let mut source = MemorySource::new(alloc, octets, 4096, &[])?;
     match FilerJournal::read(alloc, &mut source) {
@@ -60,7 +61,8 @@ fn read_filer(alloc: Global, octets: &mut Vec<u8>) -> Result<FilerJournal, OutOf
     }
 }
 
-fn read_player(alloc: Global, octets: &mut Vec<u8>) -> Result<PlayerJournal, OutOfMemory> {
+/// The player's journal of these octets, up to its end mark.
+pub fn read_player(alloc: Global, octets: &mut Vec<u8>) -> Result<PlayerJournal, OutOfMemory> {
     octets.extend_from_slice(&[0xFF])?;
     let mut source = MemorySource::new(alloc, octets, 4096, &[])?;
     match PlayerJournal::read(alloc, &mut source) {
@@ -69,8 +71,16 @@ fn read_player(alloc: Global, octets: &mut Vec<u8>) -> Result<PlayerJournal, Out
     }
 }
 
-// The verdict on journals of one line, and none on others.
-fn verdict_of(
+fn filer_of(alloc: Global, text: &str) -> Result<FilerJournal, OutOfMemory> {
+    read_filer(alloc, &mut octets_of(alloc, text)?)
+}
+
+fn player_of(alloc: Global, text: &str) -> Result<PlayerJournal, OutOfMemory> {
+    read_player(alloc, &mut octets_of(alloc, text)?)
+}
+
+/// The verdict on journals of one line, and none on others.
+pub fn verdict_of(
     alloc: Global,
     filers: &Vec<FilerJournal>,
     player: &PlayerJournal,
@@ -82,73 +92,85 @@ fn verdict_of(
 }
 
 // The verdict on two filers and the player.
-pub fn verdict_of_two(
+fn verdict_of_two(
     alloc: Global,
-    one: &mut Vec<u8>,
-    two: &mut Vec<u8>,
-    player: &mut Vec<u8>,
+    one: &str,
+    two: &str,
+    player: &str,
 ) -> Result<Option<Verdict>, OutOfMemory> {
     let mut filers: Vec<FilerJournal> = Vec::new(alloc);
-    filers.push(read_filer(alloc, one)?)?;
-    filers.push(read_filer(alloc, two)?)?;
-    let player = read_player(alloc, player)?;
-    verdict_of(alloc, &filers, &player)
+    filers.push(filer_of(alloc, one)?)?;
+    filers.push(filer_of(alloc, two)?)?;
+    verdict_of(alloc, &filers, &player_of(alloc, player)?)
+}
+
+// Whether the journals are legal, with the callers in this order.
+fn is_legal(verdict: &Option<Verdict>, callers: &[u32]) -> bool {
+    let Some(Verdict::Legal(order)) = verdict else {
+        return false;
+    };
+    if order.len() != callers.len() {
+        return false;
+    }
+    for (i, caller) in callers.iter().enumerate() {
+        if i >= order.len() || *order.get(i) != *caller {
+            return false;
+        }
+    }
+    true
 }
 
 #[test]
 fn a_duplicate_stands_behind_its_accepted_frame(rt: HostRuntime) -> Result<(), Fail> {
-    let alloc = rt.alloc();
-    let mut one = filer(alloc, 2, 6, 0)?;
-    file(&mut one, ACCEPTED, START, 0xD0)?;
-    let mut two = filer(alloc, 2, 6, 1)?;
-    file(&mut two, DUPLICATE, START, 0xD5)?;
-    let mut beats = player(alloc, 2, 6)?;
-    played(&mut beats, 0xD0)?;
-    match verdict_of_two(alloc, &mut one, &mut two, &mut beats)? {
-        Some(Verdict::Legal(order)) => {
-            assert_eq!(rt; order.len(), 3);
-            assert!(rt; order.len() > 2);
-            assert_eq!(rt; *order.get(0), 0);
-            assert_eq!(rt; *order.get(1), 1);
-            assert_eq!(rt; *order.get(2), 2);
-        }
-        _ => assert!(rt; false, "not legal"),
-    }
+    let verdict = verdict_of_two(
+        rt.alloc(),
+        "filer 02060000 00 22 0000000100000000 xD0",
+        "filer 02060000 01 23 0000000100000000 xD5",
+        "player 02060000 13 xD0",
+    )?;
+    assert!(rt; is_legal(&verdict, &[0, 1, 2]));
     Ok(())
 }
 
 #[test]
 fn two_accepted_frames_of_one_number_have_no_history(rt: HostRuntime) -> Result<(), Fail> {
-    let alloc = rt.alloc();
-    let mut one = filer(alloc, 2, 6, 0)?;
-    file(&mut one, ACCEPTED, START, 0xD0)?;
-    let mut two = filer(alloc, 2, 6, 1)?;
-    file(&mut two, ACCEPTED, START, 0xD0)?;
-    let mut beats = player(alloc, 2, 6)?;
-    played(&mut beats, 0xD0)?;
-    match verdict_of_two(alloc, &mut one, &mut two, &mut beats)? {
-        Some(Verdict::Illegal { caller, place }) => {
-            assert_eq!(rt; caller, 1);
-            assert_eq!(rt; place, 0);
-        }
-        _ => assert!(rt; false, "not illegal"),
-    }
+    let verdict = verdict_of_two(
+        rt.alloc(),
+        "filer 02060000 00 22 0000000100000000 xD0",
+        "filer 02060000 01 22 0000000100000000 xD0",
+        "player 02060000 13 xD0",
+    )?;
+    assert!(rt;
+        matches!(
+            verdict,
+            Some(Verdict::Illegal {
+                caller: 1,
+                place: 0
+            })
+        )
+    );
     Ok(())
+}
+
+// Whether the journals of a filer, where there is one, and of the player are of one line.
+fn is_one_line(alloc: Global, filer: Option<&str>, player: &str) -> Result<bool, OutOfMemory> {
+    let mut filers: Vec<FilerJournal> = Vec::new(alloc);
+    if let Some(text) = filer {
+        filers.push(filer_of(alloc, text)?)?;
+    }
+    Ok(are_of_one_line(&filers, &player_of(alloc, player)?))
 }
 
 #[test]
 fn journals_of_other_lines_are_told(rt: HostRuntime) -> Result<(), Fail> {
-    let alloc = rt.alloc();
-    // Another g, another caller, and another number of filers.
-    let mut beats = player(alloc, 1, 6)?;
-    let beats = read_player(alloc, &mut beats)?;
-    let mut filers: Vec<FilerJournal> = Vec::new(alloc);
-    assert!(rt; !are_of_one_line(&filers, &beats));
-    filers.push(read_filer(alloc, &mut filer(alloc, 1, 5, 0)?)?)?;
-    assert!(rt; !are_of_one_line(&filers, &beats));
-    let mut others: Vec<FilerJournal> = Vec::new(alloc);
-    others.push(read_filer(alloc, &mut filer(alloc, 1, 6, 0)?)?)?;
-    assert!(rt; are_of_one_line(&others, &beats));
+    let one = "player 01060000";
+    assert!(rt; is_one_line(rt.alloc(), Some("filer 01060000 00"), one)?);
+    // No journal, another g, another delay, another number of filers, and another caller.
+    assert!(rt; !is_one_line(rt.alloc(), None, one)?);
+    assert!(rt; !is_one_line(rt.alloc(), Some("filer 01050000 00"), one)?);
+    assert!(rt; !is_one_line(rt.alloc(), Some("filer 01060001 00"), one)?);
+    assert!(rt; !is_one_line(rt.alloc(), Some("filer 02060000 00"), one)?);
+    assert!(rt; !is_one_line(rt.alloc(), Some("filer 02060000 01"), "player 02060000")?);
     rule_is_exact();
     rule_decides();
     order_is_one();
@@ -157,53 +179,46 @@ fn journals_of_other_lines_are_told(rt: HostRuntime) -> Result<(), Fail> {
 
 #[test]
 fn frames_that_came_late_and_early_have_a_history(rt: HostRuntime) -> Result<(), Fail> {
-    let alloc = rt.alloc();
     // A ring of four slots: a frame, four ticks, and ten frames from the second number on; then four ticks.
-    let mut one = filer(alloc, 1, 2, 0)?;
-    file(&mut one, ACCEPTED, START, 0xDA)?;
-    passed(&mut one, 0x24, START + 1, START + 5)?;
-    passed(&mut one, 0x24, START + 2, START + 6)?;
-    passed(&mut one, 0x24, START + 3, START + 7)?;
-    file(&mut one, ACCEPTED, START + 4, 0xD3)?;
-    file(&mut one, ACCEPTED, START + 5, 0xD4)?;
-    file(&mut one, ACCEPTED, START + 6, 0xD5)?;
-    file(&mut one, ACCEPTED, START + 7, 0xD6)?;
-    passed(&mut one, 0x25, START + 8, START + 4)?;
-    passed(&mut one, 0x25, START + 9, START + 5)?;
-    passed(&mut one, 0x25, START + 10, START + 6)?;
-    let mut beats = player(alloc, 1, 2)?;
-    played(&mut beats, 0xDA)?;
-    beats.extend_from_slice(&[0x12, 0x12, 0x12])?;
-    played(&mut beats, 0xD3)?;
-    played(&mut beats, 0xD4)?;
-    played(&mut beats, 0xD5)?;
-    played(&mut beats, 0xD6)?;
-    let mut filers: Vec<FilerJournal> = Vec::new(alloc);
-    filers.push(read_filer(alloc, &mut one)?)?;
-    let player = read_player(alloc, &mut beats)?;
-    match verdict_of(alloc, &filers, &player)? {
-        Some(Verdict::Legal(order)) => assert_eq!(rt; order.len(), 19),
-        _ => assert!(rt; false, "not legal"),
-    }
+    let mut filers: Vec<FilerJournal> = Vec::new(rt.alloc());
+    filers.push(filer_of(
+        rt.alloc(),
+        "filer 01020000 00 22 0000000100000000 xDA
+        24 0000000100000001 xD0 0000000100000005 24 0000000100000002 xD0 0000000100000006
+        24 0000000100000003 xD0 0000000100000007
+        22 0000000100000004 xD3 22 0000000100000005 xD4
+        22 0000000100000006 xD5 22 0000000100000007 xD6
+        25 0000000100000008 xD0 0000000100000004 25 0000000100000009 xD0 0000000100000005
+        25 000000010000000A xD0 0000000100000006",
+    )?)?;
+    let text = "player 01020000 13 xDA 12 12 12 13 xD3 13 xD4 13 xD5 13 xD6";
+    let verdict = verdict_of(rt.alloc(), &filers, &player_of(rt.alloc(), text)?)?;
+    let callers = [0, 1, 1, 0, 1, 0, 1, 0, 0, 0, 0, 0, 0, 0, 0, 1, 1, 1, 1];
+    assert!(rt; is_legal(&verdict, &callers));
     Ok(())
+}
+
+// A script of 1000 rounds of four filers, and how it was made.
+fn made(alloc: Global, seed: u64, sink: &mut MemorySink) -> Result<Made, OutOfMemory> {
+    make_script(alloc, seed, 1000, 4, sink)
 }
 
 #[test]
 fn a_made_script_is_the_same_at_each_run(rt: HostRuntime) -> Result<(), Fail> {
     let mut one = MemorySink::new(rt.alloc(), 50000, &[])?;
     let mut two = MemorySink::new(rt.alloc(), 50000, &[])?;
-    match make_script(rt.alloc(), 7, 1000, 4, &mut one)? {
+    match made(rt.alloc(), 7, &mut one)? {
         Made::Done(plays, tally) => {
-            assert_eq!(rt; plays.ticks, 1000);
-            assert_eq!(rt; plays.idle, 0);
+            assert!(rt; plays.ticks == 1000);
+            assert!(rt; plays.idle == 0);
             assert!(rt; tally.accepted > 0);
             assert!(rt; tally.late > 0);
             assert!(rt; tally.beyond > 0);
         }
         Made::WriteFault => assert!(rt; false, "the sink failed"),
     }
-    let _ = make_script(rt.alloc(), 7, 1000, 4, &mut two)?;
-    assert_eq!(rt; one.octets().len(), 44013);
+    let _ = made(rt.alloc(), 7, &mut two)?;
+    assert!(rt; one.octets().len() == 44013);
     assert!(rt; *one.octets() == *two.octets());
     Ok(())
 }

@@ -1,5 +1,4 @@
-use Rattle.std.proofs.Common.{refl, ◌≡◌, ◌<◌, ◌+◌, ℕ, List, length, false, true, ap, subst, sym, ◌∙◌, arith}
-use Rattle.recorder.specs.Journals.{FilerRecord}
+use Rattle.std.proofs.Common.{refl, ◌≡◌, ◌<◌, ◌+◌, length, false, true, sym, ◌∙◌, arith}
 use Rattle.replay_check.specs.Journals.{AreOfOneLine}
 use Rattle.replay_check.proofs.Numbered.{numbered-at, numbered-more}
 use Rattle.replay_check.proofs.heads.are_of_one_line.Goals as goal

@@ -1,4 +1,4 @@
-use Rattle.std.proofs.Common.{◌≡◌, ◌≤◌, ◌+◌, ℕ, List, [], ◌∷◌, ◌++◌, Option, sym, ap, subst, ◌∙◌, append-nil, arith}
+use Rattle.std.proofs.Common.{◌≡◌, ℕ, List, [], ◌∷◌, ◌++◌, sym, ap, subst, ◌∙◌, append-nil, arith}
 use Rattle.std.proofs.KnownBytes.{Appends-trans}
 use Rattle.gate_io.specs.Flow.{AppendsPart}
 use Rattle.gate_io.specs.FlowLaws.{AppendsPart-after}

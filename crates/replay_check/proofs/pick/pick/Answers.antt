@@ -1,4 +1,4 @@
-use Rattle.std.proofs.Common.{rules, arith, refl, inl, inr}
+use Rattle.std.proofs.Common.{arith, refl, inr}
 use Rattle.replay_check.proofs.Places.{none-more}
 use Rattle.replay_check.proofs.pick.pick.Goals as goal
 

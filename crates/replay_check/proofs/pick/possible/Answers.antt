@@ -1,4 +1,4 @@
-use Rattle.std.proofs.Common.{rules, arith, refl, sym, false, true, ◌≡◌}
+use Rattle.std.proofs.Common.{refl, false, true, ◌≡◌}
 use Rattle.replay_check.proofs.Places.{next-some, cannot-none, cannot-replies}
 use Rattle.replay_check.proofs.pick.possible.Goals as goal
 

@@ -7,13 +7,13 @@ abbrev pub invariant-steps : goal.invariant-steps
 invariant-steps l = record {
   filers : l.line.filers ≡ l.fn.line.filers;
   slots : l.line.g ≡ l.fn.line.g;
-  long : length l.at.items ≡ length l.lists;
+  long : length l.at.items ≡ length l.lists.filers + 1;
   far : l.line.machine.position ≤ 4294967296 + slice_index l.at.items l.player;
   sofar : Sofar (2 ^ l.fn.line.g) l.player (list_of l.lists) l.line.machine l.at.items l.order.items;
 }
 
 abbrev pub decreases-steps : goal.decreases-steps
-decreases-steps l = count_left l.lists l.at.items
+decreases-steps l = count_left l.lists.filers l.lists.player l.at.items
 
 abbrev pub invariant-rest : goal.invariant-rest
 invariant-rest l = (k : ℕ) → k < l.who → left_of (list_of l.lists) l.place-items k ≡ []

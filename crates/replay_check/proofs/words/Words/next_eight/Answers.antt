@@ -1,4 +1,4 @@
-use Rattle.std.proofs.Common.{ℕ, List, length, [], ◌∷◌, ap, ◌∙◌, refl}
+use Rattle.std.proofs.Common.{ℕ, List, length, ap, ◌∙◌, refl}
 use Rattle.std.specs.Prelude.{replicate}
 use Rattle.replay_check.proofs.Rounds.{eight_words, put_rest}
 use Rattle.replay_check.proofs.words.Words.next_eight.Goals as goal
