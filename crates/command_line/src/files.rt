@@ -124,6 +124,7 @@ pub fn files_line<'a>(
 ) -> Result<Line<'a>, Refusal>
     ensures line { IfOk result (λ l. files_line name.now (rows_of (found_of matches.now)) ≡ Some l) }
     ensures usage { IsErrOf result Refusal.Usage → files_line name.now (rows_of (found_of matches.now)) ≡ None }
+    ensures refused { files_line name.now (rows_of (found_of matches.now)) ≡ None → IsErrOf result Refusal.Usage }
 {
     let Some(command) = command_of(name, matches) else {
         return Err(Refusal::Usage);

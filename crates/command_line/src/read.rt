@@ -37,6 +37,7 @@ fn matches_of<'a>(alloc: Global, words: &'a [String]) -> Result<ArgMatches<'a>, 
 fn line_by<'a>(alloc: Global, name: &str, matches: &ArgMatches<'a>) -> Result<Line<'a>, Refusal>
     ensures line { IfOk result (λ l. line_by name.now (rows_of (found_of matches.now)) ≡ Some l) }
     ensures usage { IsErrOf result Refusal.Usage → line_by name.now (rows_of (found_of matches.now)) ≡ None }
+    ensures refused { line_by name.now (rows_of (found_of matches.now)) ≡ None → IsErrOf result Refusal.Usage }
 {
     if name == "serve" {
         serve_line(alloc, matches)
@@ -49,6 +50,7 @@ fn line_by<'a>(alloc: Global, name: &str, matches: &ArgMatches<'a>) -> Result<Li
 fn line_in<'a>(alloc: Global, matches: &ArgMatches<'a>) -> Result<Line<'a>, Refusal>
     ensures line { IfOk result (λ l. line_in (subcommand_rows_of matches.now) ≡ Some l) }
     ensures usage { IsErrOf result Refusal.Usage → line_in (subcommand_rows_of matches.now) ≡ None }
+    ensures refused { line_in (subcommand_rows_of matches.now) ≡ None → IsErrOf result Refusal.Usage }
 {
     match matches.subcommand() {
         Some((name, inner)) => line_by(alloc, name, inner),

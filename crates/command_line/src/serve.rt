@@ -73,6 +73,7 @@ fn has_links(matches: &ArgMatches<'_>) -> bool
 pub fn serve_line<'a>(alloc: Global, matches: &ArgMatches<'a>) -> Result<Line<'a>, Refusal>
     ensures line { IfOk result (λ l. serve_line (rows_of (found_of matches.now)) ≡ Some l) }
     ensures usage { IsErrOf result Refusal.Usage → serve_line (rows_of (found_of matches.now)) ≡ None }
+    ensures refused { serve_line (rows_of (found_of matches.now)) ≡ None → IsErrOf result Refusal.Usage }
 {
     if !has_links(matches) {
         return Err(Refusal::Usage);

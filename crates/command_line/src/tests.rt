@@ -184,11 +184,10 @@ fn are_options(alloc: Global, before: &str, wanted: ServeOptions) -> Result<bool
     }
 }
 
-fn serves(alloc: Global, before: &str) -> Result<bool, AllocError> {
-    match options(alloc, before)? {
-        Some(_) => Ok(true),
-        None => Ok(false),
-    }
+// Whether a line of serve with these words before its places and one link is no line.
+fn is_refused_before(alloc: Global, before: &str) -> Result<bool, AllocError> {
+    let line = format!(in alloc; "serve {before} {PLACES} l")?;
+    is_refused(alloc, line.as_str())
 }
 
 const DEFAULTS: ServeOptions = ServeOptions {
@@ -249,14 +248,28 @@ fn a_value_out_of_its_range_is_no_line(rt: HostRuntime) -> Result<(), Fail> {
         "--ring +6",
         "--ring ''",
     ] {
-        assert!(rt; !serves(alloc, before)?);
+        assert!(rt; is_refused_before(alloc, before)?);
     }
-    assert!(rt; serves(alloc, "--ring 0 --delay 0 --ticks 1 --report 1")?);
+    let least = ServeOptions {
+        ring: 0,
+        delay: 0,
+        ticks: 1,
+        report: 1,
+        ssrc: 0,
+        ..DEFAULTS
+    };
+    assert!(rt;
+        are_options(
+            alloc,
+            "--ring 0 --delay 0 --ticks 1 --report 1 --ssrc 0",
+            least
+        )?
+    );
     Ok(())
 }
 
-// How many links a line of serve with so many says.
-fn links(alloc: Global, count: usize) -> Result<Option<usize>, AllocError> {
+// How many links a line of serve with so many says, or why it is refused.
+fn links(alloc: Global, count: usize) -> Result<Result<usize, Refusal>, AllocError> {
     let mut words = words(
         alloc,
         "serve --reply r --speaker s --microphone m --journals j",
@@ -265,16 +278,17 @@ fn links(alloc: Global, count: usize) -> Result<Option<usize>, AllocError> {
         words.push(String::from_str(alloc, "l")?)?;
     }
     match read_line(alloc, &words) {
-        Ok(Line::Serve(said)) => Ok(Some(said.listen.len())),
-        _ => Ok(None),
+        Ok(Line::Serve(said)) => Ok(Ok(said.listen.len())),
+        Ok(Line::Files(_)) => Ok(Ok(0)),
+        Err(refusal) => Ok(Err(refusal)),
     }
 }
 
 #[test]
 fn a_line_of_serve_has_up_to_64_links(rt: HostRuntime) -> Result<(), Fail> {
     let alloc = rt.alloc();
-    assert!(rt; links(alloc, 0)?.is_none());
-    assert_eq!(rt; links(alloc, 64)?, Some(64));
-    assert!(rt; links(alloc, 65)?.is_none());
+    assert_eq!(rt; links(alloc, 0)?, Err(Refusal::Usage));
+    assert_eq!(rt; links(alloc, 64)?, Ok(64));
+    assert_eq!(rt; links(alloc, 65)?, Err(Refusal::Usage));
     Ok(())
 }

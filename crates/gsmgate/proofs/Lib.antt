@@ -18,3 +18,4 @@ pub mod OrderLines
 pub mod JournalNames
 pub mod LinkLines
 pub mod ServeCauses
+pub mod Opening

@@ -1,5 +1,5 @@
 -- Why `serve` ended with a status: whose end it was, and whose count rose.
-use Rattle.std.proofs.Common.{◌≡◌, ◌⊎◌, inl, inr, ℕ, zero, suc, ◌+◌, ◌^◌, ◌<◌, ◌≤◌, min, List, [], ◌∷◌, length, map, Option, Some, None, slice_index, refl, sym, ap, subst, ◌∙◌, arith}
+use Rattle.std.proofs.Common.{◌≡◌, ◌⊎◌, inl, inr, ℕ, zero, suc, ◌+◌, ◌<◌, List, [], ◌∷◌, length, map, Option, Some, None, slice_index, refl, sym, ap, subst, ◌∙◌, arith}
 use mathlib.Core.Option.{some, some-ne-none, some-injective}
 use lib.ListN.{get_elem?}
 use Rattle.gate_base.specs.Faults.{Rose}
@@ -14,7 +14,7 @@ use Rattle.line_run.specs.Line.{LineRan}
 use Rattle.line_run.specs.Opening.{LineSeen}
 use Rattle.line_run.specs.Seen.{LinkSeen, PlayerSeen, SinkSeen}
 use Rattle.gsmgate.specs.Exchange.{SomeRose}
-use Rattle.gsmgate.specs.Serve.{StatusFollows, fault_of_ends, filer_fault, lowest_fault, or_else, player_fault}
+use Rattle.gsmgate.specs.Serve.{StatusFollows, fault_of_ends, filer_fault, lowest_fault, or_else}
 use Rattle.gsmgate.specs.declared.status.Status.{Status}
 use Rattle.gsmgate.specs.declared.status.Status.TheVariants.{Done, Illegal, Usage, Input, ReadFault, WriteFault, LinkFault, OutOfMemory}
 

@@ -19,3 +19,5 @@ pub mod VerifyRuns
 pub mod Make
 pub mod Commands
 pub mod Serve
+pub mod Statuses
+pub mod Gateway

@@ -1,5 +1,5 @@
 // Lines that are given together.
-ghost use Rattle.std.specs.Prelude.{◌≡◌, ◌≤◌, ◌+◌, ◌++◌, [], decimal, length, IsOk};
+ghost use Rattle.std.specs.Prelude.{◌≡◌, ◌≤◌, ◌+◌, ◌++◌, [], decimal, length, IsErr, IsOk};
 ghost use Rattle.gate_base.specs.Faults.{HasCause};
 ghost use Rattle.gate_io.specs.Flow.{Gives};
 
@@ -61,6 +61,7 @@ impl Page {
     pub fn give<O: Sink>(&mut self, output: &mut O) -> Result<(), Failed>
         ensures given { Gives (O.given output.old) (O.given output.new) result self.old }
         ensures emptied { IsOk result → self.new ≡ [] }
+        ensures kept { IsErr result → self.new ≡ self.old }
         ensures cause { HasCause (O.faults output.old) (O.faults output.new) result }
         ensures kin { O.kin output.old output.new }
     {

@@ -150,14 +150,21 @@ link 0 datagrams 0 accepted 0 duplicate 0 late 0 beyond 0 refused 0 stranger 0 r
     Ok(())
 }
 
+// A number out of its range, another command, and more links than are there.
+const OTHERS: [&str; 3] = [
+    "serve --ring 11 --reply 127.0.0.1:9000 --speaker s --microphone m --journals j 127.0.0.1:9001",
+    "simulate a b",
+    "serve --reply 127.0.0.1:9000 --speaker s --microphone m --journals j 127.0.0.1:9001 127.0.0.1:9002",
+];
+
 #[test]
-fn a_number_out_of_its_range_is_no_line(rt: HostRuntime) -> Result<(), Fail> {
-    let line =
-        "serve --ring 11 --reply 127.0.0.1:9000 --speaker s --microphone m --journals j 127.0.0.1:9001";
-    let came = comes_to(&rt, rt.alloc(), line, 2, &[], b"", "usage\n")?;
-    assert_eq!(rt; came.status, Status::Usage);
-    assert_eq!(rt; came.player, None);
-    assert_eq!(rt; came.heard, 0);
-    assert!(rt; came.noted);
+fn words_of_no_such_line_are_refused(rt: HostRuntime) -> Result<(), Fail> {
+    for line in OTHERS {
+        let came = comes_to(&rt, rt.alloc(), line, 2, &[], b"", "usage\n")?;
+        assert_eq!(rt; came.status, Status::Usage);
+        assert_eq!(rt; came.player, None);
+        assert_eq!(rt; came.heard, 0);
+        assert!(rt; came.noted);
+    }
     Ok(())
 }

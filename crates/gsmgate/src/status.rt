@@ -1,4 +1,9 @@
 // How a command ends.
+ghost use Rattle.std.specs.Prelude.{◌≡◌};
+ghost use Rattle.std.specs.Process.{exit_status};
+ghost use Rattle.gsmgate.specs.Statuses.{exit_number};
+
+use std::process::ExitCode;
 
 /// How a command ended. The program's exit status is the place in this list, from 0.
 #[derive(Clone, Copy, Debug, PartialEq, Eq)]
@@ -19,4 +24,11 @@ pub enum Status {
     LinkFault,
     /// There was no memory.
     OutOfMemory,
+}
+
+/// The exit status of the program.
+pub fn code_of(status: Status) -> ExitCode
+    ensures { exit_status result ≡ exit_number status }
+{
+    ExitCode::from(status as u8)
 }

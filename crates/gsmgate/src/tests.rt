@@ -277,6 +277,7 @@ fn the_first_fault_is_noted_with_its_place(rt: HostRuntime) -> Result<(), Fail> 
 fn a_fault_in_mid_stream_ends_the_run_there(rt: HostRuntime) -> Result<(), Fail> {
     let alloc = rt.alloc();
     let input = "script 01060003 010101 FF";
+    let head = breaks_as(alloc, input, &[7], &[], Status::ReadFault, "")?;
     let read = breaks_as(
         alloc,
         input,
@@ -293,7 +294,7 @@ fn a_fault_in_mid_stream_ends_the_run_there(rt: HostRuntime) -> Result<(), Fail>
         Status::WriteFault,
         "journal 01060003 12",
     )?;
-    assert!(rt; read && write);
+    assert!(rt; head && read && write);
     Ok(())
 }
 

@@ -1,0 +1,150 @@
+// The objects of a line of serve.
+ghost use Rattle.std.specs.Prelude.{◌≡◌, ◌⊎◌, false, map, length, IfOk, IfSome};
+ghost use Rattle.std.specs.String.{string_bytes};
+ghost use Rattle.command_line.specs.Lines.{fits_serve};
+ghost use Rattle.gate_os.specs.Edges.{lasting};
+ghost use Rattle.gsmgate.specs.Gateway.{AreFresh, IsOpenedAt, IsReply};
+ghost use Rattle.gsmgate.specs.Serve.{StatusFollows, fault_of_ends};
+
+use crate::places::Places;
+use crate::serve::{Served, run_serve};
+use crate::status::Status;
+use gate_base::OutOfMemory;
+use gate_io::{Link, Sink, Source, TickClock};
+use gate_os::{OsClock, OsSink, OsSource, UdpLink};
+use std::alloc::Global;
+use std::fs::Files;
+use std::io::Print;
+use std::net::Net;
+use std::sync::Wait;
+use std::thread::Threads;
+use std::time::Clock;
+
+/// What a line of serve runs over. Each place has a type of its own, so that no two of them can be exchanged.
+#[derive(Drop)]
+pub struct Gateway<P, I, O, J, E, C> {
+    /// The links, one for each address that is listened on.
+    pub links: Vec<P>,
+    /// Where return speech is sent.
+    pub reply: P,
+    /// Where return speech is read.
+    pub microphone: I,
+    /// Where speech is played.
+    pub speaker: O,
+    /// The journals, the player's first.
+    pub journals: Vec<J>,
+    /// Where the notes go.
+    pub notes: E,
+    /// The ticks.
+    pub clock: C,
+}
+
+/// A gateway on sockets, files, standard output and the system's clock.
+pub type OsGateway<'a, R> = Gateway<
+    UdpLink<'a, R>,
+    OsSource<R>,
+    OsSink<'a, R>,
+    OsSink<'a, R>,
+    OsSink<'a, R>,
+    OsClock<'a, R>,
+>;
+
+// A socket for each address that is listened on.
+fn bind_all<'a, R: Net + Clock + Wait + Sync + AllocGlobal>(
+    rt: &'a R,
+    places: &Places,
+) -> Result<Vec<UdpLink<'a, R>>, OutOfMemory>
+    ensures { IfOk result (λ v. AreFresh (lasting places.now.ticks) (length places.now.links.items) v.items) }
+{
+    let mut links = Vec::new(rt.alloc());
+    for here in &places.links {
+        links.push(UdpLink::bind(rt, rt.alloc(), here.as_str(), "", places.ticks)?)?;
+    }
+    Ok(links)
+}
+
+// A socket for return speech, at the port of the first that listens.
+fn open_reply<'a, R: Net + Clock + Wait + Sync + AllocGlobal>(
+    rt: &'a R,
+    links: &[UdpLink<'a, R>],
+    places: &Places,
+) -> Result<UdpLink<'a, R>, OutOfMemory>
+    ensures { IfOk result (IsReply (lasting places.now.ticks)) }
+{
+    let there = places.reply.as_str();
+    match links.first() {
+        Some(link) => link.answering(rt.alloc(), there, places.ticks),
+        None => UdpLink::bind(rt, rt.alloc(), "0.0.0.0:0", there, places.ticks),
+    }
+}
+
+// A file for each of these paths.
+fn create_all<'a, R: Files + Print + Sync + AllocGlobal>(
+    rt: &'a R,
+    paths: &[String],
+) -> Result<Vec<OsSink<'a, R>>, OutOfMemory>
+    ensures { IfOk result (λ v. length v.items ≡ length paths.now) }
+{
+    let mut sinks = Vec::new(rt.alloc());
+    for path in paths {
+        sinks.push(OsSink::create(rt, rt.alloc(), path.as_str())?)?;
+    }
+    Ok(sinks)
+}
+
+/// Opens the sockets and the files that a line of serve names. The clock starts last.
+pub fn open_gateway<'a, R: Net + Clock + Wait + Files + Print + Sync + AllocGlobal>(
+    rt: &'a R,
+    places: &Places,
+) -> Result<OsGateway<'a, R>, OutOfMemory>
+    ensures { IfOk result (IsOpenedAt places.now) }
+{
+    let links = bind_all(rt, places)?;
+    let reply = open_reply(rt, &links, places)?;
+    Ok(Gateway {
+        links,
+        reply,
+        microphone: OsSource::open(rt, rt.alloc(), places.microphone.as_str())?,
+        speaker: OsSink::create(rt, rt.alloc(), places.speaker.as_str())?,
+        journals: create_all(rt, &places.journals)?,
+        notes: OsSink::standard(rt),
+        clock: OsClock::new(rt, places.ticks),
+    })
+}
+
+/// Does the command `serve` of the words over a gateway.
+pub fn run_gateway<
+    R: Threads + Wait + Sync,
+    P: Link + Send + Drop,
+    I: Source + Send + Drop,
+    O: Sink + Send + Drop,
+    J: Sink + Send + Drop,
+    E: Sink + Drop,
+    C: TickClock + Send + Drop,
+>(rt: &R, alloc: Global, words: &Vec<String>, gateway: Gateway<P, I, O, J, E, C>) -> Served
+    ensures usage { result.status ≡ Status.Usage → fits_serve (map string_bytes words.now.items) (length gateway.links.items) (length gateway.journals.items) ≡ false }
+    ensures usage_only { fits_serve (map string_bytes words.now.items) (length gateway.links.items) (length gateway.journals.items) ≡ false → (result.status ≡ Status.Usage) ⊎ (result.status ≡ Status.OutOfMemory) }
+    ensures status { IfSome result.end (λ e. StatusFollows (fault_of_ends e.player e.filers) result.status (Unit {0})) }
+{
+    let Gateway {
+        mut links,
+        mut reply,
+        mut microphone,
+        mut speaker,
+        mut journals,
+        mut notes,
+        mut clock,
+    } = gateway;
+    run_serve(
+        rt,
+        alloc,
+        words,
+        &mut links,
+        &mut reply,
+        &mut microphone,
+        &mut speaker,
+        &mut journals,
+        &mut notes,
+        &mut clock,
+    )
+}

@@ -1,0 +1,200 @@
+// The real objects: files of the folder where the tests run, sockets on loopback at free ports, and the system's clock.
+use crate::starting::{Started, run_on, start};
+use crate::status::Status;
+use crate::tests::{octets_of, words_of};
+use gate_io::{Failed, Link, Received, Sink, Source};
+use std::alloc::{AllocError, Global};
+use std::net::{Net, UdpSocket};
+use std::test::Fail;
+use std::time::Duration;
+use std::{env, fs, thread};
+
+// A socket at an address, which waits ten seconds for a datagram, and the text of the address with its port.
+fn peer<R: Net + AllocGlobal>(rt: &R, address: &str) -> Result<(UdpSocket, String), Fail> {
+    let socket = UdpSocket::bind(rt, address)?;
+    socket.set_read_timeout(Some(Duration::from_secs(10)))?;
+    let here = format!(in rt.alloc(); "{}", socket.local_addr()?)?;
+    Ok((socket, here))
+}
+
+// The words of a line of serve, whose files have names that begin so.
+fn serve_words(
+    alloc: Global,
+    name: &str,
+    ticks: u64,
+    reply: &str,
+    listen: &str,
+) -> Result<Vec<String>, AllocError> {
+    let line = format!(in alloc;
+        "serve --ticks {ticks} --reply {reply} --speaker {name}.heard --microphone {name}.said --journals {name} {listen}"
+    )?;
+    words_of(alloc, line.as_str())
+}
+
+// Whether a file has these octets. It is removed.
+fn had<R: fs::Files + AllocGlobal>(rt: &R, path: &str, octets: &[u8]) -> Result<bool, Fail> {
+    let same = *fs::read(rt, path)?.as_slice() == *octets;
+    fs::remove_file(rt, path)?;
+    Ok(same)
+}
+
+// Whether the next datagram of a socket is this one.
+fn hears(socket: &UdpSocket, octets: &[u8]) -> Result<bool, Fail> {
+    let mut piece = [0; 2048];
+    let (len, _) = socket.recv_from(&mut piece)?;
+    Ok(len == octets.len() && piece.starts_with(octets))
+}
+
+// What a link answers next.
+fn answer<P: Link>(link: &mut P) -> Result<Received, Failed> {
+    let mut piece = [0; 2048];
+    link.receive(&mut piece)
+}
+
+// What the link at this place answers next.
+fn answer_at<P: Link>(links: &mut Vec<P>, place: usize) -> Option<Result<Received, Failed>> {
+    if place < links.len() {
+        Some(answer(&mut links[place]))
+    } else {
+        None
+    }
+}
+
+// Whether the sink at this place takes the octets.
+fn gives_at<J: Sink>(sinks: &mut Vec<J>, place: usize, octets: &[u8]) -> bool {
+    place < sinks.len() && sinks[place].give(octets) == Ok(())
+}
+
+// Whether a source begins with these octets.
+fn begins<I: Source>(source: &mut I, octets: &[u8; 4]) -> bool {
+    let mut piece = [0; 4];
+    source.take(&mut piece) == Ok(4) && piece == *octets
+}
+
+#[test]
+fn each_object_of_a_line_stands_at_its_place(rt: HostRuntime) -> Result<(), Fail> {
+    let (socket, there) = peer(&rt, "127.0.0.1:0")?;
+    fs::write(&rt, "place.said", "said")?;
+    let words = serve_words(rt.alloc(), "place", 500, there.as_str(), "127.0.0.1:0 astray")?;
+    let Started::Open(mut gateway) = start(&rt, &words) else {
+        return Err(Fail::from("no gateway"));
+    };
+    assert_eq!(rt; answer_at(&mut gateway.links, 0), Some(Ok(Received::Idle)));
+    assert_eq!(rt; answer_at(&mut gateway.links, 1), Some(Err(Failed)));
+    assert_eq!(rt; gateway.reply.send(b"spoken"), Ok(()));
+    assert!(rt; hears(&socket, b"spoken")?);
+    assert!(rt; begins(&mut gateway.microphone, b"said"));
+    assert_eq!(rt; gateway.speaker.give(b"heard"), Ok(()));
+    assert!(rt; gives_at(&mut gateway.journals, 0, b"played"));
+    assert!(rt; gives_at(&mut gateway.journals, 1, b"first"));
+    assert!(rt; gives_at(&mut gateway.journals, 2, b"second"));
+    assert!(rt; had(&rt, "place.said", b"said")? && had(&rt, "place.heard", b"heard")?);
+    assert!(rt; had(&rt, "place.player", b"played")?);
+    assert!(rt; had(&rt, "place.0", b"first")? && had(&rt, "place.1", b"second")?);
+    Ok(())
+}
+
+#[test]
+fn a_reply_by_the_later_protocol_is_sent_by_it(rt: HostRuntime) -> Result<(), Fail> {
+    // A machine with the earlier one alone has nothing to show.
+    if UdpSocket::bind(&rt, "[::1]:0").is_err() {
+        return Ok(());
+    }
+    let (socket, there) = peer(&rt, "[::1]:0")?;
+    let words = serve_words(rt.alloc(), "later", 1, there.as_str(), "127.0.0.1:0")?;
+    let Started::Open(mut gateway) = start(&rt, &words) else {
+        return Err(Fail::from("no gateway"));
+    };
+    assert_eq!(rt; gateway.reply.send(b"spoken"), Ok(()));
+    assert!(rt; hears(&socket, b"spoken")?);
+    for path in ["later.heard", "later.player", "later.0"] {
+        fs::remove_file(&rt, path)?;
+    }
+    Ok(())
+}
+
+#[test]
+fn sockets_live_a_second_longer_than_their_ticks(rt: HostRuntime) -> Result<(), Fail> {
+    let alloc = rt.alloc();
+    let short = serve_words(alloc, "short", 10, "127.0.0.1:9", "127.0.0.1:0")?;
+    let long = serve_words(alloc, "long", 1000, "127.0.0.1:9", "127.0.0.1:0")?;
+    let (Started::Open(mut short), Started::Open(mut long)) = (
+        start(&rt, &short),
+        start(&rt, &long),
+    ) else {
+        return Err(Fail::from("no gateway"));
+    };
+    thread::sleep(&rt, Duration::from_millis(1300));
+    assert_eq!(rt; answer_at(&mut short.links, 0), Some(Ok(Received::Ended)));
+    assert_eq!(rt; answer(&mut short.reply), Ok(Received::Ended));
+    assert_eq!(rt; answer_at(&mut long.links, 0), Some(Ok(Received::Idle)));
+    assert_eq!(rt; answer(&mut long.reply), Ok(Received::Idle));
+    for path in [
+        "short.heard",
+        "short.player",
+        "short.0",
+        "long.heard",
+        "long.player",
+        "long.0",
+    ] {
+        fs::remove_file(&rt, path)?;
+    }
+    Ok(())
+}
+
+#[test]
+fn a_line_runs_over_sockets_and_files(rt: HostRuntime) -> Result<(), Fail> {
+    let (socket, there) = peer(&rt, "127.0.0.1:0")?;
+    fs::write(&rt, "line.said", [0u8; 320].as_slice())?;
+    let words = serve_words(rt.alloc(), "line", 3, there.as_str(), "127.0.0.1:0")?;
+    let started = start(&rt, &words);
+    assert_eq!(rt; run_on(&rt, rt.alloc(), &words, started), Status::Done);
+    assert!(rt; had(&rt, "line.said", &[0; 320])? && had(&rt, "line.heard", &[0; 960])?);
+    assert!(rt;
+        had(
+            &rt,
+            "line.player",
+            b"GSMGPJ01\x01\x06\x00\x03\x10\x10\x10\xFF"
+        )?
+    );
+    assert!(rt; had(&rt, "line.0", b"GSMGFJ01\x01\x06\x00\x03\x00\xFF")?);
+    let packet = octets_of(rt.alloc(), "800300000000000000000001 zeros")?;
+    assert!(rt; hears(&socket, &packet)?);
+    Ok(())
+}
+
+#[test]
+fn journals_are_judged_in_the_order_of_the_words(rt: HostRuntime) -> Result<(), Fail> {
+    let alloc = rt.alloc();
+    let player = octets_of(alloc, "journal 02060003 13 zeros FF")?;
+    let first = octets_of(alloc, "filer 02060003 00 22 0000000100000000 zeros FF")?;
+    let second = octets_of(alloc, "filer 02060003 01 23 0000000100000000 silence FF")?;
+    fs::write(&rt, "judged.player", player.as_slice())?;
+    fs::write(&rt, "judged.0", first.as_slice())?;
+    fs::write(&rt, "judged.1", second.as_slice())?;
+    let words = words_of(alloc, "verify judged.order judged.player judged.0 judged.1")?;
+    assert!(rt; matches!(start(&rt, &words), Started::Ended(Status::Done)));
+    assert!(rt; had(&rt, "judged.order", b"0\n1\np\n")? && had(&rt, "judged.player", &player)?);
+    assert!(rt; had(&rt, "judged.0", &first)? && had(&rt, "judged.1", &second)?);
+    Ok(())
+}
+
+#[test]
+fn words_that_name_nothing_end_at_once(rt: HostRuntime) -> Result<(), Fail> {
+    let none = words_of(rt.alloc(), "simulat a b")?;
+    assert!(rt; matches!(start(&rt, &none), Started::Ended(Status::Usage)));
+    let astray = words_of(rt.alloc(), "decode no-such-file unread.speech")?;
+    assert!(rt; matches!(start(&rt, &astray), Started::Ended(Status::ReadFault)));
+    assert!(rt; had(&rt, "unread.speech", b"")?);
+    Ok(())
+}
+
+#[test]
+fn the_programs_own_word_is_no_word_of_the_line(rt: HostRuntime) -> Result<(), Fail> {
+    let mut all: usize = 0;
+    for _ in env::args(&rt)? {
+        all = all.saturating_add(1);
+    }
+    assert_eq!(rt; crate::words_of(&rt)?.len() + 1, all);
+    Ok(())
+}
