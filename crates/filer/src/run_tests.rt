@@ -1,3 +1,4 @@
+use super::tests::{Came, came_of};
 use super::*;
 use gate_io::{LinkEntry, MemoryLink, MemorySink, Octets};
 use play_machine::{MapFiler, MapLine};
@@ -83,18 +84,26 @@ fn ran<R: Wait>(
 ) -> Result<RunEnd, Fail> {
     let mut link = MemoryLink::new(alloc, script(alloc, fails)?, sends, 4)?;
     let mut journal = MemorySink::new(alloc, 271, &[(give, 0)])?;
-    let line = MapLine::new(alloc, 1, 6)?;
-    let mut side = MapFiler::of(line, 0);
+    let mut side = MapFiler::of(MapLine::new(alloc, 1, 6)?, 0);
+    Ok(ran_over(rt, &mut side, &mut link, &mut journal))
+}
+
+fn ran_over<R: Wait>(
+    rt: &R,
+    side: &mut MapFiler,
+    link: &mut MemoryLink,
+    journal: &mut MemorySink,
+) -> RunEnd {
     let mut filer = Filer::new(3, 1, 5);
-    let end = filer.run(rt, &mut side, &mut link, &mut journal);
+    let end = filer.run(rt, side, link, journal);
     let sent = link.sent_count();
-    Ok(RunEnd {
+    RunEnd {
         end,
         octets: journal.octets().len(),
         is_whole: is_whole(journal.octets()),
         sent,
         is_report: sent == 1 && link.sent(0).starts_with(&REPORT),
-    })
+    }
 }
 
 #[test]
@@ -136,10 +145,13 @@ fn a_link_that_fails_ends_the_run_behind_the_end_mark(rt: HostRuntime) -> Result
 fn turned(alloc: Global, entries: Vec<LinkEntry>, room: usize) -> Result<Turn, Fail> {
     let mut link = MemoryLink::new(alloc, entries, &[], 0)?;
     let mut journal = MemorySink::new(alloc, room, &[])?;
-    let line = MapLine::new(alloc, 1, 6)?;
-    let mut side = MapFiler::of(line, 0);
+    let mut side = MapFiler::of(MapLine::new(alloc, 1, 6)?, 0);
+    Ok(turn_over(&mut side, &mut link, &mut journal))
+}
+
+fn turn_over(side: &mut MapFiler, link: &mut MemoryLink, journal: &mut MemorySink) -> Turn {
     let mut filer = Filer::new(3, 1, 5);
-    Ok(filer.turn(&mut side, &mut link, &mut journal))
+    filer.turn(side, link, journal)
 }
 
 fn one(alloc: Global, entry: LinkEntry) -> Result<Vec<LinkEntry>, Fail> {
@@ -165,36 +177,44 @@ fn a_turn_is_one_receive(rt: HostRuntime) -> Result<(), Fail> {
     Ok(())
 }
 
-// How a datagram ends at a new filer.
-fn end_of(rt: &HostRuntime, datagram: &[u8]) -> Result<OutcomeEnd, Fail> {
-    let line = MapLine::new(rt.alloc(), 1, 6)?;
-    let mut side = MapFiler::of(line, 0);
+// How a datagram of at most 64 octets ends at a new filer.
+fn end_of(alloc: Global, datagram: &[u8]) -> Result<Came, Fail> {
+    let mut side = MapFiler::of(MapLine::new(alloc, 1, 6)?, 0);
+    Ok(end_over(&mut side, datagram))
+}
+
+fn end_over(side: &mut MapFiler, datagram: &[u8]) -> Came {
     let mut filer = Filer::new(3, 1, 5);
     let mut piece = [0; 64];
     let len = datagram.len().min(64);
     piece[..len].copy_from_slice(&datagram[..len]);
-    Ok(filer.take(&mut side, &piece[..len], 0).end)
+    came_of(&filer.take(side, &piece[..len], 0).end)
 }
 
 #[test]
 fn compounds_are_read_or_refused(rt: HostRuntime) -> Result<(), Fail> {
-    assert!(rt; matches!(end_of(&rt, &REPORT)?, OutcomeEnd::Rtcp));
-    let read = end_of(&rt, &[0x80, 0xC9, 0, 1, 0, 0, 0, 1])?;
-    assert!(rt; matches!(read, OutcomeEnd::Rtcp));
-    let cut = end_of(&rt, &[0x80, 0xC9, 0, 2, 0, 0, 0, 1])?;
-    assert!(rt; matches!(cut, OutcomeEnd::RtcpRefused(RtcpFault::Cut { at: 0 })));
-    let first = end_of(&rt, &[0x80, 0xCA, 0, 1, 0, 0, 0, 1])?;
-    assert!(rt; matches!(first, OutcomeEnd::RtcpRefused(RtcpFault::First)));
-    let padded = end_of(&rt, &[0xA0, 0xC9, 0, 2, 0, 0, 0, 1, 0, 0, 0, 4])?;
-    assert!(rt; matches!(padded, OutcomeEnd::Rtcp));
-    let padding = end_of(&rt, &[0xA0, 0xC9, 0, 2, 0, 0, 0, 1, 0, 0, 0, 3])?;
-    assert!(rt;
-        matches!(
-            padding,
-            OutcomeEnd::RtcpRefused(RtcpFault::Padding { at: 0 })
-        )
+    let alloc = rt.alloc();
+    assert_eq!(rt; end_of(alloc, &REPORT)?, Came::Rtcp);
+    assert_eq!(rt; end_of(alloc, &[0x80, 0xC9, 0, 1, 0, 0, 0, 1])?, Came::Rtcp);
+    assert_eq!(rt;
+        end_of(alloc, &[0x80, 0xC9, 0, 2, 0, 0, 0, 1])?,
+        Came::RtcpRefused(RtcpFault::Cut { at: 0 })
     );
-    let body = end_of(&rt, &[0x81, 0xC9, 0, 1, 0, 0, 0, 1])?;
-    assert!(rt; matches!(body, OutcomeEnd::RtcpRefused(RtcpFault::Body { at: 0 })));
+    assert_eq!(rt;
+        end_of(alloc, &[0x80, 0xCA, 0, 1, 0, 0, 0, 1])?,
+        Came::RtcpRefused(RtcpFault::First)
+    );
+    assert_eq!(rt;
+        end_of(alloc, &[0xA0, 0xC9, 0, 2, 0, 0, 0, 1, 0, 0, 0, 4])?,
+        Came::Rtcp
+    );
+    assert_eq!(rt;
+        end_of(alloc, &[0xA0, 0xC9, 0, 2, 0, 0, 0, 1, 0, 0, 0, 3])?,
+        Came::RtcpRefused(RtcpFault::Padding { at: 0 })
+    );
+    assert_eq!(rt;
+        end_of(alloc, &[0x81, 0xC9, 0, 1, 0, 0, 0, 1])?,
+        Came::RtcpRefused(RtcpFault::Body { at: 0 })
+    );
     Ok(())
 }

@@ -16,65 +16,94 @@ fn packet(sequence: u8, timestamp: u32) -> [u8; 45] {
     octets
 }
 
-fn first_of(outcome: &Outcome) -> Option<u64> {
-    match &outcome.end {
-        OutcomeEnd::Filed { first, .. } => Some(*first),
-        _ => None,
+// How a datagram ended, in plain values.
+#[derive(Clone, Copy, Debug, PartialEq, Eq)]
+pub enum Came {
+    Filed(u64, FileReply),
+    Stranger(u32, u32),
+    Empty,
+    Refused(RtpFault),
+    Rtcp,
+    RtcpRefused(RtcpFault),
+    Other,
+}
+
+pub fn came_of(end: &OutcomeEnd) -> Came {
+    match end {
+        OutcomeEnd::Rtcp => Came::Rtcp,
+        OutcomeEnd::RtcpRefused(fault) => Came::RtcpRefused(*fault),
+        OutcomeEnd::RtpRefused(fault) => Came::Refused(*fault),
+        OutcomeEnd::Empty => Came::Empty,
+        OutcomeEnd::Stranger { ssrc, held } => Came::Stranger(*ssrc, *held),
+        OutcomeEnd::Filed { first, replies } if replies.len() == 1 => {
+            Came::Filed(*first, *replies.get(0))
+        }
+        OutcomeEnd::Filed { .. } => Came::Other,
     }
 }
 
-fn reply_of(outcome: &Outcome) -> Option<FileReply> {
-    match &outcome.end {
-        OutcomeEnd::Filed { replies, .. } if replies.len() > 0 => Some(*replies.get(0)),
+// The source and the base that a datagram of at most 64 octets said, and how it ended.
+fn taken(
+    filer: &mut Filer,
+    side: &mut MapFiler,
+    datagram: &[u8],
+    at: u32,
+) -> (Option<Asked>, Option<Asked>, Came) {
+    let mut piece = [0; 64];
+    let len = datagram.len().min(64);
+    piece[..len].copy_from_slice(&datagram[..len]);
+    let outcome = filer.take(side, &piece[..len], at);
+    (outcome.source, outcome.base, came_of(&outcome.end))
+}
+
+// How a datagram ended that said neither.
+fn bare_end(filer: &mut Filer, side: &mut MapFiler, datagram: &[u8], at: u32) -> Option<Came> {
+    match taken(filer, side, datagram, at) {
+        (None, None, end) => Some(end),
         _ => None,
     }
 }
 
 #[test]
 fn packets_of_the_first_source_are_filed(rt: HostRuntime) -> Result<(), Fail> {
-    let line = MapLine::new(rt.alloc(), 1, 6)?;
-    let mut side = MapFiler::of(line, 0);
+    let mut side = MapFiler::of(MapLine::new(rt.alloc(), 1, 6)?, 0);
     let mut filer = Filer::new(3, 1, 2);
-    let outcome = filer.take(&mut side, &packet(1, 4294967200), 0);
-    assert_eq!(rt; first_of(&outcome), Some(4294967299));
-    let said = Asked {
+    let source = Some(Asked {
         said: 305419896,
         held: 305419896,
-    };
-    assert_eq!(rt; outcome.source, Some(said));
-    assert_eq!(rt; outcome.base.map(|asked| asked.held), Some(4294967200));
-    let outcome = filer.take(&mut side, &packet(2, 64), 160);
-    assert_eq!(rt; first_of(&outcome), Some(4294967300));
-    assert_eq!(rt; reply_of(&outcome), Some(FileReply::Accepted));
-    assert_eq!(rt; outcome.base, None);
-    let outcome = filer.take(&mut side, &packet(3, 100), 160);
-    assert_eq!(rt; reply_of(&outcome), Some(FileReply::Duplicate));
+    });
+    let base = Some(Asked {
+        said: 4294967200,
+        held: 4294967200,
+    });
+    let filed = Came::Filed(4294967299, FileReply::Accepted);
+    assert_eq!(rt;
+        taken(&mut filer, &mut side, &packet(1, 4294967200), 0),
+        (source, base, filed)
+    );
+    let filed = Came::Filed(4294967300, FileReply::Accepted);
+    assert_eq!(rt;
+        bare_end(&mut filer, &mut side, &packet(2, 64), 160),
+        Some(filed)
+    );
+    let filed = Came::Filed(4294967300, FileReply::Duplicate);
+    assert_eq!(rt;
+        bare_end(&mut filer, &mut side, &packet(3, 100), 160),
+        Some(filed)
+    );
     let mut other = packet(4, 224);
     other[8..12].copy_from_slice(&[0, 0, 0, 1]);
-    let outcome = filer.take(&mut side, &other, 320);
-    assert!(rt;
-        matches!(
-            &outcome.end,
-            OutcomeEnd::Stranger {
-                ssrc: 1,
-                held: 305419896
-            }
-        )
-    );
-    let outcome = filer.take(&mut side, &other[..12], 320);
-    assert!(rt; matches!(&outcome.end, OutcomeEnd::Empty));
-    let outcome = filer.take(&mut side, &other[..11], 320);
-    assert!(rt; matches!(&outcome.end, OutcomeEnd::RtpRefused(RtpFault::Short)));
     let report = [0x80, 0xC9, 0, 1, 0, 0, 0, 1];
-    let outcome = filer.take(&mut side, &report, 320);
-    assert!(rt; matches!(&outcome.end, OutcomeEnd::Rtcp));
-    let outcome = filer.take(&mut side, &report[..7], 320);
-    assert!(rt;
-        matches!(
-            &outcome.end,
-            OutcomeEnd::RtcpRefused(RtcpFault::Cut { at: 0 })
-        )
-    );
+    let table = [
+        (&other[..], Came::Stranger(1, 305419896)),
+        (&other[..12], Came::Empty),
+        (&other[..11], Came::Refused(RtpFault::Short)),
+        (&report[..], Came::Rtcp),
+        (&report[..7], Came::RtcpRefused(RtcpFault::Cut { at: 0 })),
+    ];
+    for (datagram, end) in table {
+        assert_eq!(rt; bare_end(&mut filer, &mut side, datagram, 320), Some(end));
+    }
     let tally = Tally {
         datagrams: 8,
         accepted: 2,

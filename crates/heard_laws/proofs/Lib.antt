@@ -4,3 +4,4 @@ pub mod OneJournal
 pub mod Telling
 pub mod GivenBack
 pub mod RunGivesBack
+pub mod Compared

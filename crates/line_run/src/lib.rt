@@ -27,3 +27,5 @@ pub use slot_ring::Left;
 
 #[cfg(test)]
 mod tests;
+#[cfg(test)]
+mod thread_tests;

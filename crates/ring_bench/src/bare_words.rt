@@ -1,7 +1,7 @@
 // The same loads, exchanges and swaps on words with nothing around them.
 use crate::caller::{Filer, Player, SLOTS, START};
 use crate::measure;
-use crate::measure::{Costs, Four};
+use crate::measure::{Four, Load, Measured};
 use frame_codec::Frame33;
 use gate_base::OutOfMemory;
 use play_machine::FileReply;
@@ -54,12 +54,14 @@ impl<'a> Player for Playing<'a> {
         self.position
     }
 
-    fn tick(&mut self) {
+    fn tick(&mut self) -> bool {
         let number = self.position;
-        if let Some(word) = word_of(self.words, number) {
-            word.swap(number.wrapping_add(SLOTS).wrapping_mul(2), Ordering::SeqCst);
-        }
         self.position = number.wrapping_add(1);
+        let Some(word) = word_of(self.words, number) else {
+            return false;
+        };
+        let next = number.wrapping_add(SLOTS).wrapping_mul(2);
+        word.swap(next, Ordering::SeqCst) % 2 == 1
     }
 }
 
@@ -76,14 +78,15 @@ pub(crate) fn alone<R: Clock>(
     alloc: Global,
     zero: Instant,
     frame: &Frame33,
-) -> Result<Costs, OutOfMemory> {
+    load: Load,
+) -> Result<Measured, OutOfMemory> {
     let words = open(alloc)?;
     let mut filer = Filing { words: &words };
     let mut player = Playing {
         words: &words,
         position: START,
     };
-    Ok(measure::alone(rt, zero, &mut filer, &mut player, frame))
+    Ok(measure::alone(rt, zero, &mut filer, &mut player, frame, load))
 }
 
 pub(crate) fn contended<R: Threads + Clock + Sync>(
@@ -91,7 +94,8 @@ pub(crate) fn contended<R: Threads + Clock + Sync>(
     alloc: Global,
     zero: Instant,
     frame: &Frame33,
-) -> Result<Costs, OutOfMemory> {
+    load: Load,
+) -> Result<Measured, OutOfMemory> {
     let words = open(alloc)?;
     let mut filers = Four {
         a: Filing { words: &words },
@@ -103,5 +107,5 @@ pub(crate) fn contended<R: Threads + Clock + Sync>(
         words: &words,
         position: START,
     };
-    Ok(measure::contended(rt, zero, &mut filers, &mut player, frame))
+    Ok(measure::contended(rt, zero, &mut filers, &mut player, frame, load))
 }

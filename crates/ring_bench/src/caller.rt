@@ -1,5 +1,6 @@
 // Who calls, whatever stands behind.
-ghost use Rattle.std.specs.Prelude.{◌<◌, ◌^◌};
+ghost use Rattle.std.specs.Prelude.{◌≡◌, ℕ, ◌+◌, ◌<◌, ◌^◌};
+ghost use Rattle.play_machine.specs.declared.reply.FileReply.TheVariants.{Accepted, Beyond, Duplicate, Late};
 
 use frame_codec::Frame33;
 use play_machine::FileReply;
@@ -25,12 +26,14 @@ pub(crate) trait Player {
     /// The number that the next tick plays.
     fn position(&self) -> u64;
 
-    fn tick(&mut self);
+    /// Plays the next number. Whether a frame was there.
+    fn tick(&mut self) -> bool;
 }
 
 /// The number itself, where a filing takes it.
 pub(crate) fn bounded(number: u64) -> u64
-    ensures { result < 2 ^ 47 }
+    ensures low { result < 2 ^ 47 }
+    ensures same { number < 2 ^ 46 → result ≡ number }
 {
     if number < LAST { number } else { LAST }
 }
@@ -38,6 +41,10 @@ pub(crate) fn bounded(number: u64) -> u64
 /// The number that a filer tries after this reply.
 pub(crate) fn following(number: u64, reply: FileReply) -> u64
     requires { number < 2 ^ 47 }
+    ensures accepted { reply ≡ Accepted → result ≡ number + 1 }
+    ensures duplicate { reply ≡ Duplicate → result ≡ number + 1 }
+    ensures late { (ahead : ℕ) → reply ≡ Late ahead → result ≡ ahead }
+    ensures beyond { (ahead : ℕ) → reply ≡ Beyond ahead → result ≡ number }
 {
     match reply {
         FileReply::Accepted | FileReply::Duplicate => number + 1,

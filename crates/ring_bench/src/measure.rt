@@ -1,20 +1,32 @@
 // What calls take.
+ghost use Rattle.std.specs.Prelude.{◌≡◌, ◌+◌, ◌*◌, ◌/◌, ◌<◌, ◌≤◌, ◌^◌};
 ghost use Rattle.std.specs.Thread.{IsSync};
 ghost use denote.Param.Send.{IsSend};
 
 use crate::caller::{Filer, Player, SLOTS, START, bounded, following};
 use frame_codec::Frame33;
+use play_machine::FileReply;
+use std::sync::atomic::{AtomicU64, Ordering};
+use std::thread;
 use std::thread::{Threads, join_mut};
 use std::time::{Clock, Instant};
 
-// How often the slots are filled and played where one thread calls.
-const TURNS: u64 = 6250;
-
-// The numbers that are played where several threads call.
-const NUMBERS: u64 = 5000000;
-
 // No filer calls more often, even beside a player that stands still.
 const MOST: u64 = 1000000000;
+
+// The four filers and the player.
+const CALLERS: u64 = 5;
+
+// So often each looks for the others before it begins.
+const LOOKS: u64 = 10_000_000;
+
+/// How much is called: how often the slots are filled and played where one thread calls, and the numbers that are played where
+/// several do.
+#[derive(Clone, Copy)]
+pub(crate) struct Load {
+    pub(crate) turns: u64,
+    pub(crate) numbers: u64,
+}
 
 /// Nanoseconds of a call, and how often a filer called for 100 numbers.
 #[derive(Clone, Copy)]
@@ -24,18 +36,56 @@ pub(crate) struct Costs {
     pub(crate) tick: u64,
 }
 
-// Nanoseconds of so many calls.
+/// How many frames were accepted, and how many played; the number that the next tick plays; and how many callers began at once.
+#[derive(Clone, Copy)]
+pub(crate) struct Counts {
+    pub(crate) accepted: u64,
+    pub(crate) played: u64,
+    pub(crate) next: u64,
+    pub(crate) at_once: u64,
+}
+
+/// What calls took, and what came of them.
+#[derive(Clone, Copy)]
+pub(crate) struct Measured {
+    pub(crate) costs: Costs,
+    pub(crate) counts: Counts,
+}
+
+// Nanoseconds of so many calls, how many frames were taken by them, and how many callers began at once.
 #[derive(Clone, Copy)]
 struct Spent {
     nanos: u64,
     calls: u64,
+    frames: u64,
+    at_once: u64,
 }
 
-fn together(one: Spent, two: Spent) -> Spent {
+fn together(one: Spent, two: Spent) -> Spent
+    ensures nanos { one.nanos + two.nanos < 2 ^ 64 → result.nanos ≡ one.nanos + two.nanos }
+    ensures calls { one.calls + two.calls < 2 ^ 64 → result.calls ≡ one.calls + two.calls }
+    ensures frames { one.frames + two.frames < 2 ^ 64 → result.frames ≡ one.frames + two.frames }
+    ensures at_once { one.at_once + two.at_once < 2 ^ 64 → result.at_once ≡ one.at_once + two.at_once }
+{
     Spent {
         nanos: one.nanos.saturating_add(two.nanos),
         calls: one.calls.saturating_add(two.calls),
+        frames: one.frames.saturating_add(two.frames),
+        at_once: one.at_once.saturating_add(two.at_once),
     }
+}
+
+fn per_call(spent: Spent) -> u64
+    ensures { 1 ≤ spent.calls → result ≡ spent.nanos / spent.calls }
+{
+    spent.nanos / spent.calls.max(1)
+}
+
+// How often each of four filers called for 100 numbers, of all their calls for so many.
+fn tries_of(calls: u64, numbers: u64) -> u64
+    ensures { 25 ≤ numbers → result ≡ calls / (numbers / 25) }
+{
+    calls / (numbers / 25).max(1)
 }
 
 // Nanoseconds since then, or 0 where the clock cannot be read.
@@ -49,17 +99,45 @@ fn nanos<R: Clock>(rt: &R, zero: Instant) -> u64 {
     }
 }
 
-fn file_turn<F: Filer>(filer: &mut F, first: u64, frame: &Frame33) {
+// Files a frame for each slot. How many were accepted.
+fn file_turn<F: Filer>(filer: &mut F, first: u64, frame: &Frame33) -> u64 {
+    let mut accepted = 0u64;
     for i in 0..SLOTS {
-        filer.file(bounded(first.saturating_add(i)), frame);
+        if filer.file(bounded(first.saturating_add(i)), frame) == FileReply::Accepted {
+            accepted = accepted.saturating_add(1);
+        }
+    }
+    accepted
+}
+
+// Plays each slot. How many had a frame.
+fn tick_turn<P: Player>(player: &mut P) -> u64 {
+    let mut played = 0u64;
+    for _ in 0..SLOTS {
+        if player.tick() {
+            played = played.saturating_add(1);
+        }
+    }
+    played
+}
+
+fn turn(nanos: u64, frames: u64) -> Spent
+    ensures { result ≡ record { nanos = nanos; calls = 32; frames = frames; at_once = 0 } }
+{
+    Spent {
+        nanos,
+        calls: SLOTS,
+        frames,
+        at_once: 0,
     }
 }
 
-fn tick_turn<P: Player>(player: &mut P) {
-    for _ in 0..SLOTS {
-        player.tick();
-    }
-}
+const NOTHING: Spent = Spent {
+    nanos: 0,
+    calls: 0,
+    frames: 0,
+    at_once: 0,
+};
 
 /// One thread fills the slots and plays them, again and again.
 pub(crate) fn alone<R: Clock, F: Filer, P: Player>(
@@ -68,48 +146,100 @@ pub(crate) fn alone<R: Clock, F: Filer, P: Player>(
     filer: &mut F,
     player: &mut P,
     frame: &Frame33,
-) -> Costs {
-    let (mut file, mut tick) = (0u64, 0u64);
-    for _ in 0..TURNS {
+    load: Load,
+) -> Measured {
+    let (mut file, mut tick) = (NOTHING, NOTHING);
+    for _ in 0..load.turns {
         let begun = nanos(rt, zero);
-        file_turn(filer, player.position(), frame);
+        let accepted = file_turn(filer, player.position(), frame);
         let filed = nanos(rt, zero);
-        tick_turn(player);
-        file = file.saturating_add(filed.saturating_sub(begun));
-        tick = tick.saturating_add(nanos(rt, zero).saturating_sub(filed));
+        let played = tick_turn(player);
+        let ended = nanos(rt, zero);
+        file = together(file, turn(filed.saturating_sub(begun), accepted));
+        tick = together(tick, turn(ended.saturating_sub(filed), played));
     }
-    Costs {
-        file: file / (TURNS * SLOTS),
-        tries: 100,
-        tick: tick / (TURNS * SLOTS),
+    Measured {
+        costs: Costs {
+            file: per_call(file),
+            tries: 100,
+            tick: per_call(tick),
+        },
+        counts: Counts {
+            accepted: file.frames,
+            played: tick.frames,
+            next: player.position(),
+            at_once: 1,
+        },
     }
 }
 
+// Comes to where the callers meet, and waits for the others, yielding between looks. 1 where all came in time.
+fn meet(come: &AtomicU64) -> u64 {
+    come.fetch_add(1, Ordering::SeqCst);
+    for _ in 0..LOOKS {
+        if come.load(Ordering::SeqCst) >= CALLERS {
+            return 1;
+        }
+        thread::yield_now();
+    }
+    0
+}
+
 // Files number after number, as the replies say, until all are played or filed.
-fn file_on<R: Clock, F: Filer>(rt: &R, zero: Instant, filer: &mut F, frame: &Frame33) -> Spent {
+fn file_on<R: Clock, F: Filer>(
+    rt: &R,
+    zero: Instant,
+    filer: &mut F,
+    frame: &Frame33,
+    numbers: u64,
+    come: &AtomicU64,
+) -> Spent {
+    let at_once = meet(come);
     let begun = nanos(rt, zero);
     let mut number = START;
     let mut calls = 0u64;
+    let mut frames = 0u64;
     for _ in 0..MOST {
-        if number >= START + NUMBERS {
+        if number >= START.saturating_add(numbers) {
             break;
         }
         let tried = bounded(number);
-        number = following(tried, filer.file(tried, frame));
+        let reply = filer.file(tried, frame);
+        if reply == FileReply::Accepted {
+            frames = frames.saturating_add(1);
+        }
+        number = following(tried, reply);
         calls = calls.saturating_add(1);
     }
     Spent {
         nanos: nanos(rt, zero).saturating_sub(begun),
         calls,
+        frames,
+        at_once,
     }
 }
 
-fn tick_on<R: Clock, P: Player>(rt: &R, zero: Instant, player: &mut P) -> u64 {
+fn tick_on<R: Clock, P: Player>(
+    rt: &R,
+    zero: Instant,
+    player: &mut P,
+    numbers: u64,
+    come: &AtomicU64,
+) -> Spent {
+    let at_once = meet(come);
     let begun = nanos(rt, zero);
-    for _ in 0..NUMBERS {
-        player.tick();
+    let mut frames = 0u64;
+    for _ in 0..numbers {
+        if player.tick() {
+            frames = frames.saturating_add(1);
+        }
     }
-    nanos(rt, zero).saturating_sub(begun) / NUMBERS
+    Spent {
+        nanos: nanos(rt, zero).saturating_sub(begun),
+        calls: numbers,
+        frames,
+        at_once,
+    }
 }
 
 fn two_filers<R: Threads + Clock + Sync, F: Filer + Send>(
@@ -118,11 +248,13 @@ fn two_filers<R: Threads + Clock + Sync, F: Filer + Send>(
     one: &mut F,
     two: &mut F,
     frame: &Frame33,
+    numbers: u64,
+    come: &AtomicU64,
 ) -> Spent {
     let (one, two) = join_mut(
         rt,
-        &mut || file_on(rt, zero, one, frame),
-        &mut || file_on(rt, zero, two, frame),
+        &mut || file_on(rt, zero, one, frame, numbers, come),
+        &mut || file_on(rt, zero, two, frame, numbers, come),
     );
     together(one, two)
 }
@@ -141,16 +273,18 @@ fn four_filers<R: Threads + Clock + Sync, F: Filer + Send>(
     zero: Instant,
     filers: &mut Four<F>,
     frame: &Frame33,
+    numbers: u64,
+    come: &AtomicU64,
 ) -> Spent {
     let Four { a, b, c, d } = filers;
     let (one, two) = join_mut(
         rt,
         &mut || -> Spent
             requires { IsSync R.row × IsSend F.row }
-        { two_filers(rt, zero, a, b, frame) },
+        { two_filers(rt, zero, a, b, frame, numbers, come) },
         &mut || -> Spent
             requires { IsSync R.row × IsSend F.row }
-        { two_filers(rt, zero, c, d, frame) },
+        { two_filers(rt, zero, c, d, frame, numbers, come) },
     );
     together(one, two)
 }
@@ -162,17 +296,29 @@ pub(crate) fn contended<R: Threads + Clock + Sync, F: Filer + Send, P: Player + 
     filers: &mut Four<F>,
     player: &mut P,
     frame: &Frame33,
-) -> Costs {
-    let (spent, tick) = join_mut(
+    load: Load,
+) -> Measured {
+    let numbers = load.numbers;
+    let gate = AtomicU64::new(0);
+    let come = &gate;
+    let (file, tick) = join_mut(
         rt,
         &mut || -> Spent
             requires { IsSync R.row × IsSend F.row }
-        { four_filers(rt, zero, filers, frame) },
-        &mut || tick_on(rt, zero, player),
+        { four_filers(rt, zero, filers, frame, numbers, come) },
+        &mut || tick_on(rt, zero, player, numbers, come),
     );
-    Costs {
-        file: spent.nanos / spent.calls.max(1),
-        tries: spent.calls / (NUMBERS / 25),
-        tick,
+    Measured {
+        costs: Costs {
+            file: per_call(file),
+            tries: tries_of(file.calls, numbers),
+            tick: per_call(tick),
+        },
+        counts: Counts {
+            accepted: file.frames,
+            played: tick.frames,
+            next: player.position(),
+            at_once: file.at_once.saturating_add(tick.at_once),
+        },
     }
 }

@@ -4,8 +4,8 @@ ghost use Rattle.slot_ring.specs.Seen.{position_in};
 
 use crate::caller::{Filer, G, Player, START};
 use crate::measure;
-use crate::measure::{Costs, Four};
-use frame_codec::Frame33;
+use crate::measure::{Four, Load, Measured};
+use frame_codec::{Frame33, Item};
 use gate_base::OutOfMemory;
 use play_machine::FileReply;
 use slot_ring::{FilerPass, PlayerPass, SlotRing, Steps};
@@ -62,7 +62,7 @@ fn file_once<L: Ledger>(
     ring.file(pass, number, frame, &mut steps)
 }
 
-fn tick_once<L: Ledger>(ring: &SlotRing, pass: &mut PlayerPass, counted: ledger::Blank)
+fn tick_once<L: Ledger>(ring: &SlotRing, pass: &mut PlayerPass, counted: ledger::Blank) -> bool
     requires ring { pass.old.ring ≡ ring.now }
     requires position { position_in pass.old < 2 ^ 33 }
     requires name { counted.name ≡ L.name }
@@ -70,7 +70,7 @@ fn tick_once<L: Ledger>(ring: &SlotRing, pass: &mut PlayerPass, counted: ledger:
     ensures { pass.new.ring ≡ ring.now }
 {
     let mut steps = Steps::<L>::open(counted);
-    let _ = ring.tick(pass, &mut steps);
+    ring.tick(pass, &mut steps) != Item::Erasure
 }
 
 impl<'a> Filer for Filing<'a> {
@@ -90,10 +90,11 @@ impl<'a> Player for Playing<'a> {
         self.pass.position()
     }
 
-    fn tick(&mut self) {
+    fn tick(&mut self) -> bool {
         if self.pass.position() < END {
-            tick_once::<Brand>(self.ring, &mut self.pass, ledger::Blank::new(1));
+            return tick_once::<Brand>(self.ring, &mut self.pass, ledger::Blank::new(1));
         }
+        false
     }
 }
 
@@ -141,7 +142,8 @@ pub(crate) fn alone<R: Clock>(
     alloc: Global,
     zero: Instant,
     frame: &Frame33,
-) -> Result<Costs, OutOfMemory> {
+    load: Load,
+) -> Result<Measured, OutOfMemory> {
     let Crew {
         ring,
         one,
@@ -152,7 +154,7 @@ pub(crate) fn alone<R: Clock>(
     } = open::<Brand>(alloc, ledger::Blank::new(1))?;
     let mut filer = of_filer(&ring, one);
     let mut player = of_player(&ring, player);
-    Ok(measure::alone(rt, zero, &mut filer, &mut player, frame))
+    Ok(measure::alone(rt, zero, &mut filer, &mut player, frame, load))
 }
 
 pub(crate) fn contended<R: Threads + Clock + Sync>(
@@ -160,7 +162,8 @@ pub(crate) fn contended<R: Threads + Clock + Sync>(
     alloc: Global,
     zero: Instant,
     frame: &Frame33,
-) -> Result<Costs, OutOfMemory> {
+    load: Load,
+) -> Result<Measured, OutOfMemory> {
     let Crew {
         ring,
         one,
@@ -176,5 +179,5 @@ pub(crate) fn contended<R: Threads + Clock + Sync>(
         d: of_filer(&ring, four),
     };
     let mut player = of_player(&ring, player);
-    Ok(measure::contended(rt, zero, &mut filers, &mut player, frame))
+    Ok(measure::contended(rt, zero, &mut filers, &mut player, frame, load))
 }

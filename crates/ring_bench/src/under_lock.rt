@@ -3,8 +3,8 @@ ghost use Rattle.std.specs.Prelude.{◌≡◌, ◌<◌, ◌^◌};
 
 use crate::caller::{Filer, G, Player, START};
 use crate::measure;
-use crate::measure::{Costs, Four};
-use frame_codec::Frame33;
+use crate::measure::{Four, Load, Measured};
+use frame_codec::{Frame33, Item};
 use gate_base::OutOfMemory;
 use play_machine::{FileReply, MapLine};
 use std::alloc::Global;
@@ -28,10 +28,11 @@ impl Line {
         self.line.file(who, number, frame)
     }
 
-    fn tick(&mut self) {
+    fn tick(&mut self) -> bool {
         if self.line.position() < END {
-            let _ = self.line.tick();
+            return self.line.tick() != Item::Erasure;
         }
+        false
     }
 }
 
@@ -60,8 +61,8 @@ impl<'a, R: Wait> Player for Playing<'a, R> {
         self.line.lock(self.rt).line.position()
     }
 
-    fn tick(&mut self) {
-        self.line.lock(self.rt).tick();
+    fn tick(&mut self) -> bool {
+        self.line.lock(self.rt).tick()
     }
 }
 
@@ -81,11 +82,12 @@ pub(crate) fn alone<R: Clock + Wait>(
     alloc: Global,
     zero: Instant,
     frame: &Frame33,
-) -> Result<Costs, OutOfMemory> {
+    load: Load,
+) -> Result<Measured, OutOfMemory> {
     let line = Mutex::new(open(alloc)?);
     let mut filer = of_filer(rt, &line, 0);
     let mut player = Playing { rt, line: &line };
-    Ok(measure::alone(rt, zero, &mut filer, &mut player, frame))
+    Ok(measure::alone(rt, zero, &mut filer, &mut player, frame, load))
 }
 
 pub(crate) fn contended<R: Threads + Clock + Wait + Sync>(
@@ -93,7 +95,8 @@ pub(crate) fn contended<R: Threads + Clock + Wait + Sync>(
     alloc: Global,
     zero: Instant,
     frame: &Frame33,
-) -> Result<Costs, OutOfMemory> {
+    load: Load,
+) -> Result<Measured, OutOfMemory> {
     let line = Mutex::new(open(alloc)?);
     let mut filers = Four {
         a: of_filer(rt, &line, 0),
@@ -102,5 +105,5 @@ pub(crate) fn contended<R: Threads + Clock + Wait + Sync>(
         d: of_filer(rt, &line, 3),
     };
     let mut player = Playing { rt, line: &line };
-    Ok(measure::contended(rt, zero, &mut filers, &mut player, frame))
+    Ok(measure::contended(rt, zero, &mut filers, &mut player, frame, load))
 }
