@@ -75,7 +75,13 @@ fn begins<I: Source>(source: &mut I, octets: &[u8; 4]) -> bool {
 fn each_object_of_a_line_stands_at_its_place(rt: HostRuntime) -> Result<(), Fail> {
     let (socket, there) = peer(&rt, "127.0.0.1:0")?;
     fs::write(&rt, "place.said", "said")?;
-    let words = serve_words(rt.alloc(), "place", 500, there.as_str(), "127.0.0.1:0 astray")?;
+    let words = serve_words(
+        rt.alloc(),
+        "place",
+        500,
+        there.as_str(),
+        "127.0.0.1:0 astray",
+    )?;
     let Started::Open(mut gateway) = start(&rt, &words) else {
         return Err(Fail::from("no gateway"));
     };
