@@ -1,22 +1,17 @@
 #!/usr/bin/env python3
-"""Reads what the gateway plays from a FIFO, and prints how late the ticks were.
+"""Says how late ticks were.
 
-usage: serve.py FIFO
-A tick is one give of 320 octets each 20 ms. Its lateness is against the earliest line of 20 ms steps that no tick lies before.
+usage: serve.py NAME FILE
+The file has the time of each tick, in seconds, a line each; a tick is due each 20 ms. Its lateness is against the earliest line
+of 20 ms steps that no tick lies before.
 """
-import os
 import sys
-import time
 
-came = []
-with open(sys.argv[1], "rb", buffering=0) as speaker:
-    left = 320
-    while piece := speaker.read(left):
-        left -= len(piece)
-        if left == 0:
-            came.append(time.monotonic())
-            left = 320
-line = min(at - 0.02 * n for n, at in enumerate(came))
-late = sorted(at - 0.02 * n - line for n, at in enumerate(came))
-ms = [f"{1000 * late[min(len(late) - 1, int(len(late) * part))]:.3f}" for part in (0.5, 0.99, 0.999)]
-print(f"ticks {len(came)}: lateness median {ms[0]} ms, 99th percentile {ms[1]} ms, 99.9th {ms[2]} ms, worst {1000 * late[-1]:.3f} ms")
+name, path = sys.argv[1:]
+with open(path) as file:
+    came = [float(line) for line in file]
+begun = min(at - 0.02 * n for n, at in enumerate(came))
+late = sorted(at - 0.02 * n - begun for n, at in enumerate(came))
+parts = [1000 * late[min(len(late) - 1, int(len(late) * part))] for part in (0.5, 0.99, 0.999, 1)]
+print(f"{name}: {len(late)} ticks, late by ms: " + ", ".join(
+    f"{what} {value:.3f}" for what, value in zip(("median", "99th percentile", "99.9th", "worst"), parts)))

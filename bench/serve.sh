@@ -1,11 +1,16 @@
 #!/usr/bin/env bash
-# The gateway under load on loopback: 64 sockets with 50 packets a second each, for a minute. Prints how late its ticks were, the
-# frames that came in time and were not played, processor time, and, in shorter runs, system calls by kind and allocations
-# behind the opening. It wants the program as `rt run` leaves it in crates/gsmgate/out; strace and gcc for the last two.
+# The gateway under load on loopback: 64 sockets with 50 packets a second each, for a minute. Prints how late its ticks were
+# beside those of a bare thread that only sleeps, the frames that came in time and were not played, processor time, and, in
+# shorter runs, system calls by kind and allocations behind the opening. It wants the program as `rt run` leaves it in
+# crates/gsmgate/out; strace for the system calls. Words behind the seconds stand before the gateway's, as `chrt -f 10`.
+#
+# usage: serve.sh [SOCKETS [SECONDS [COMMAND...]]]
 . "$(dirname "$0")/common.sh"
 needs python3 python3
+needs gcc gcc
 sockets=${1:-64}
 seconds=${2:-60}
+before=("${@:3}")
 listens=$(for ((k = 0; k < sockets; k++)); do echo "127.0.0.1:$((22000 + k))"; done)
 
 serve() { # TICKS COMMAND-BEFORE...: its time goes to $work/time
@@ -21,17 +26,17 @@ load() { # SECONDS
   python3 "$top/scripts/senders.py" 127.0.0.1 22000 "$sockets" $((50 * $1)) 0 0 0 0.2 "$work/reports"
 }
 
-rm -f "$work/speaker"
-mkfifo "$work/speaker"
-python3 "$top/bench/serve.py" "$work/speaker" >"$work/ticks" &
-reader=$!
-serve $((50 * seconds + 100)) env &
+gcc -O2 -shared -fPIC -o "$work/ticks.so" "$top/bench/ticks.c"
+gcc -O2 -DBARE -o "$work/bare" "$top/bench/ticks.c"
+serve $((50 * seconds + 100)) "${before[@]}" env LD_PRELOAD="$work/ticks.so" TICKS="$work/ticks" &
 server=$!
+"${before[@]}" "$work/bare" $((50 * seconds + 50)) >"$work/bare.ticks" &
+bare=$!
 sleep 0.3
 load "$seconds"
-wait $server
-wait $reader
-cat "$work/ticks"
+wait $server $bare
+python3 "$top/bench/serve.py" gateway "$work/ticks"
+python3 "$top/bench/serve.py" "bare thread" "$work/bare.ticks"
 read -r user system real <"$work/time"
 python3 -c "print(f'processor time: {$user + $system:.2f} s in {$real:.1f} s, {100 * ($user + $system) / $real:.1f} of a hundred of one processor')"
 # The frames behind the first one that were covered though a packet for their tick had come in time, on any path.
@@ -49,7 +54,6 @@ PY
 cat "$work/notes" | head -2
 
 if has strace; then
-  rm -f "$work/speaker"
   serve 500 strace -f -c -o "$work/calls" &
   server=$!
   sleep 0.5
@@ -62,44 +66,10 @@ else
   echo "skipped: strace is not there (Debian's strace)"
 fi
 
-if has gcc; then
-  cat >"$work/counting.c" <<'C'
-#define _GNU_SOURCE
-#include <dlfcn.h>
-#include <stdatomic.h>
-#include <stdio.h>
-#include <stdlib.h>
-#include <sys/types.h>
-#include <sys/socket.h>
-#include <sys/syscall.h>
-#include <unistd.h>
-static atomic_ulong all, behind;
-static atomic_int opened;
-static void count(void) { all++; if (opened) behind++; }
-void *malloc(size_t n) { static void *(*real)(size_t); if (!real) real = dlsym(RTLD_NEXT, "malloc"); count(); return real(n); }
-void *realloc(void *p, size_t n) { static void *(*real)(void *, size_t); if (!real) real = dlsym(RTLD_NEXT, "realloc"); count(); return real(p, n); }
-ssize_t recvfrom(int fd, void *b, size_t n, int f, struct sockaddr *a, socklen_t *l) {
-  static ssize_t (*real)(int, void *, size_t, int, struct sockaddr *, socklen_t *);
-  if (!real) real = dlsym(RTLD_NEXT, "recvfrom");
-  ssize_t came = real(fd, b, n, f, a, l);
-  if (came >= 0) opened = 1;
-  return came;
-}
-void _exit(int status) {
-  fprintf(stderr, "allocations %lu, behind the first datagram %lu\n", all, behind);
-  fflush(stderr);
-  syscall(SYS_exit_group, status);
-  __builtin_unreachable();
-}
-C
-  gcc -O2 -shared -fPIC -o "$work/counting.so" "$work/counting.c" -ldl
-  rm -f "$work/speaker"
-  serve 300 env LD_PRELOAD="$work/counting.so" &
-  server=$!
-  sleep 0.5
-  load 4 >/dev/null
-  wait $server
-  cat "$work/said"
-else
-  echo "skipped: gcc is not there"
-fi
+gcc -O2 -shared -fPIC -o "$work/counting.so" "$top/bench/counting.c" -ldl
+serve 300 env LD_PRELOAD="$work/counting.so" &
+server=$!
+sleep 0.5
+load 4 >/dev/null
+wait $server
+cat "$work/said"
