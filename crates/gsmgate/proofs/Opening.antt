@@ -1,15 +1,19 @@
 -- The objects of a gateway, one more.
-use Rattle.std.proofs.Common.{◌≡◌, inr, ℕ, zero, suc, ◌+◌, List, [], ◌∷◌, ◌++◌, length, length-append, Option, Some, None, true, false, ap, refl, sym, ◌∙◌, arith}
+use Rattle.std.proofs.Common.{◌≡◌, inl, inr, ℕ, zero, suc, ◌+◌, List, [], ◌∷◌, ◌++◌, length, length-append, Option, Some, None, true, false, ap, refl, subst, sym, ◌∙◌, arith}
 use Rattle.std.specs.Prelude.{IsSome, IfSome}
+use Rattle.std.proofs.lemmas.Bool.{eq-eqb}
 use Rattle.std.proofs.lemmas.List.{length-map}
+use Rattle.std.proofs.KnownBytes.{Keeps-refl}
+use Rattle.std.specs.Io.KnownBytes.{Keeps}
 use Rattle.std.specs.List.{AllByRecursion}
 use Rattle.std.specs.String.{string_bytes}
 use Rattle.gate_io.specs.Clocks.{ClockState}
 use Rattle.gate_os.specs.Edges.{SocketState}
-use Rattle.command_line.specs.Said.{Text}
-use Rattle.command_line.specs.Lines.{Said}
+use Rattle.command_line.specs.Said.{FilesSaid, Text}
+use Rattle.command_line.specs.Lines.{Said, fits_files, has_inputs, line_of}
 use Rattle.command_line.specs.declared.line.Line.TheVariants.{Files, Serve}
-use Rattle.gsmgate.specs.Gateway.{AreFresh, IsFresh, IsOpenedAt, Starts, SystemGateway}
+use Rattle.gsmgate.specs.Exchange.{Giving}
+use Rattle.gsmgate.specs.Gateway.{AreFresh, IsFresh, IsOpenedAt, IsQuiet, Starts, SystemGateway}
 use Rattle.gsmgate.specs.Places.{ArePlaces, journals_from, journals_of}
 use Rattle.gsmgate.specs.declared.places.Places.{Places}
 use Rattle.gsmgate.specs.declared.starting.Started.TheVariants.{Ended, Open}
@@ -37,13 +41,18 @@ journals-length p n = ap suc (from-length p 0 n) ∙ add-one-back n
 
 -- ---- what the words come to
 
-no_memory : OutOfMemory ≡ Usage → ⊥
-no_memory h = cc
+pub as-many : (words : List Text) (said : FilesSaid) (n : ℕ) → line_of words ≡ Some (Files said) → length said.inputs ≡ n → fits_files words n ≡ true
+as-many words said n line many =
+    let fits : Option Said → Type 0 = λ l. has_inputs l n ≡ true in
+    subst fits (sym line) (eq-eqb (length said.inputs) n many)
 
-pub starved : (said : Option Said) → Starts said (Ended OutOfMemory)
-starved None = inr refl
-starved (Some (Files s)) = no_memory
-starved (Some (Serve s)) = refl
+pub kept : {S : Type 0} (f : S → Option (List ℕ)) {old new : S} → new ≡ old → Keeps (f old) (f new)
+kept f {old = old} same = subst (λ s. Keeps (f old) (f s)) (sym same) (Keeps-refl (f old))
+
+pub starved : (said : Option Said) (x : Giving) → IsQuiet x → Starts said (Ended OutOfMemory) x
+starved None x quiet = inr (refl, quiet)
+starved (Some (Files s)) x quiet = inl (refl, quiet)
+starved (Some (Serve s)) x quiet = (refl, quiet)
 
 never : (p : Places) → p.serve ≡ false → p.serve ≡ true → ⊥
 never p no_serve serve = cc
@@ -51,16 +60,18 @@ never p no_serve serve = cc
 nothing : false ≡ true → ⊥
 nothing h = cc
 
-pub opened : (said : Option Said) (p : Places) (g : SystemGateway) → IfSome said (λ s. ArePlaces s p) → IsSome said → p.serve ≡ true → IsOpenedAt p g → Starts said (Open g)
-opened None p g places line serve at = nothing line
-opened (Some (Files s)) p g places line serve at = never p places.serve serve
-opened (Some (Serve s)) p g places line serve at =
+pub opened : (said : Option Said) (p : Places) (g : SystemGateway) (x : Giving) → IfSome said (λ s. ArePlaces s p) → IsSome said → p.serve ≡ true → IsOpenedAt p g → IsQuiet x → Starts said (Open g) x
+opened None p g x places line serve at quiet = nothing line
+opened (Some (Files s)) p g x places line serve at quiet = never p places.serve serve
+opened (Some (Serve s)) p g x places line serve at quiet =
     let clock : ℕ → ClockState = λ n. record { ticks = 0; left = n; ended = false } in
     let links : length p.links.items ≡ length s.listen = sym (length-map p.links.items string_bytes) ∙ ap (λ (l : List Text). length l) places.links in
     let journals : length p.journals.items ≡ length s.listen + 1 =
-    sym (length-map p.journals.items string_bytes) ∙ ap (λ (l : List Text). length l) places.journals ∙ journals-length s.journals (length s.listen) in
-    record {
-      links = at.links.many ∙ links;
-      journals = at.journals ∙ journals;
-      clock = at.clock ∙ ap clock places.ticks;
-    }
+    sym (length-map p.journals.items string_bytes) ∙ ap (λ (l : List Text). length l) places.journals ∙ journals-length s.journals (length s.listen) in (
+      record {
+        links = at.links.many ∙ links;
+        journals = at.journals ∙ journals;
+        clock = at.clock ∙ ap clock places.ticks;
+      },
+      quiet,
+    )

@@ -1,10 +1,13 @@
 // The objects of a line of serve.
-ghost use Rattle.std.specs.Prelude.{◌≡◌, ◌⊎◌, false, map, length, IfOk, IfSome};
+ghost use Rattle.std.specs.Prelude.{◌≡◌, ◌⊎◌, None, false, map, length, IfOk, IfSome};
 ghost use Rattle.std.specs.String.{string_bytes};
+ghost use Rattle.std.specs.Io.KnownBytes.{Appends};
 ghost use Rattle.command_line.specs.Lines.{fits_serve};
 ghost use Rattle.gate_os.specs.Edges.{lasting};
+ghost use Rattle.gsmgate.specs.Exchange.{GainedUnlessFault};
 ghost use Rattle.gsmgate.specs.Gateway.{AreFresh, IsOpenedAt, IsReply};
-ghost use Rattle.gsmgate.specs.Serve.{StatusFollows, fault_of_ends};
+ghost use Rattle.gsmgate.specs.Notes.{usage_line};
+ghost use Rattle.gsmgate.specs.Serve.{StatusFollows, fault_of_ends, serve_lines};
 
 use crate::places::Places;
 use crate::serve::{Served, run_serve};
@@ -22,7 +25,7 @@ use std::time::Clock;
 
 /// What a line of serve runs over. Each place has a type of its own, so that no two of them can be exchanged.
 #[derive(Drop)]
-pub struct Gateway<P, I, O, J, E, C> {
+pub struct Gateway<P, I, O, J, C> {
     /// The links, one for each address that is listened on.
     pub links: Vec<P>,
     /// Where return speech is sent.
@@ -33,17 +36,14 @@ pub struct Gateway<P, I, O, J, E, C> {
     pub speaker: O,
     /// The journals, the player's first.
     pub journals: Vec<J>,
-    /// Where the notes go.
-    pub notes: E,
     /// The ticks.
     pub clock: C,
 }
 
-/// A gateway on sockets, files, standard output and the system's clock.
+/// A gateway on sockets, files and the system's clock.
 pub type OsGateway<'a, R> = Gateway<
     UdpLink<'a, R>,
     OsSource<R>,
-    OsSink<'a, R>,
     OsSink<'a, R>,
     OsSink<'a, R>,
     OsClock<'a, R>,
@@ -107,7 +107,6 @@ pub fn open_gateway<'a, R: Net + Clock + Wait + Files + Print + Sync + AllocGlob
         microphone: OsSource::open(rt, rt.alloc(), places.microphone.as_str())?,
         speaker: OsSink::create(rt, rt.alloc(), places.speaker.as_str())?,
         journals: create_all(rt, &places.journals)?,
-        notes: OsSink::standard(rt),
         clock: OsClock::new(rt, places.ticks),
     })
 }
@@ -119,12 +118,22 @@ pub fn run_gateway<
     I: Source + Send + Drop,
     O: Sink + Send + Drop,
     J: Sink + Send + Drop,
-    E: Sink + Drop,
     C: TickClock + Send + Drop,
->(rt: &R, alloc: Global, words: &Vec<String>, gateway: Gateway<P, I, O, J, E, C>) -> Served
+    E: Sink,
+>(
+    rt: &R,
+    alloc: Global,
+    words: &Vec<String>,
+    gateway: Gateway<P, I, O, J, C>,
+    notes: &mut E,
+) -> Served
     ensures usage { result.status ≡ Status.Usage → fits_serve (map string_bytes words.now.items) (length gateway.links.items) (length gateway.journals.items) ≡ false }
     ensures usage_only { fits_serve (map string_bytes words.now.items) (length gateway.links.items) (length gateway.journals.items) ≡ false → (result.status ≡ Status.Usage) ⊎ (result.status ≡ Status.OutOfMemory) }
-    ensures status { IfSome result.end (λ e. StatusFollows (fault_of_ends e.player e.filers) result.status (Unit {0})) }
+    ensures refused { result.status ≡ Status.Usage → GainedUnlessFault (E.given notes.old) (E.given notes.new) (E.faults notes.old) (E.faults notes.new) usage_line }
+    ensures starved { result.status ≡ Status.OutOfMemory → notes.new ≡ notes.old }
+    ensures ended { result.end ≡ None → (result.status ≡ Status.Usage) ⊎ (result.status ≡ Status.OutOfMemory) }
+    ensures status { IfSome result.end (λ e. StatusFollows (fault_of_ends e.player e.filers) result.status (Appends (E.given notes.old) (E.given notes.new) (serve_lines e.played e.filers))) }
+    ensures noted { IfSome result.end (λ e. GainedUnlessFault (E.given notes.old) (E.given notes.new) (E.faults notes.old) (E.faults notes.new) (serve_lines e.played e.filers)) }
 {
     let Gateway {
         mut links,
@@ -132,7 +141,6 @@ pub fn run_gateway<
         mut microphone,
         mut speaker,
         mut journals,
-        mut notes,
         mut clock,
     } = gateway;
     run_serve(
@@ -144,7 +152,7 @@ pub fn run_gateway<
         &mut microphone,
         &mut speaker,
         &mut journals,
-        &mut notes,
+        notes,
         &mut clock,
     )
 }

@@ -2,7 +2,8 @@
 use crate::starting::{Started, run_on, start};
 use crate::status::Status;
 use crate::tests::{octets_of, words_of};
-use gate_io::{Failed, Link, Received, Sink, Source};
+use gate_base::OutOfMemory;
+use gate_io::{Failed, Link, MemorySink, Received, Sink, Source};
 use std::alloc::{AllocError, Global};
 use std::net::{Net, UdpSocket};
 use std::test::Fail;
@@ -31,6 +32,16 @@ fn serve_words(
     words_of(alloc, line.as_str())
 }
 
+// Where notes go.
+fn no_notes(alloc: Global) -> Result<MemorySink, OutOfMemory> {
+    MemorySink::new(alloc, 1000, &[])
+}
+
+// Whether these are the notes.
+fn noted(notes: &MemorySink, text: &str) -> bool {
+    *notes.octets() == *text.as_bytes()
+}
+
 // Whether a file has these octets. It is removed.
 fn had<R: fs::Files + AllocGlobal>(rt: &R, path: &str, octets: &[u8]) -> Result<bool, Fail> {
     let same = *fs::read(rt, path)?.as_slice() == *octets;
@@ -43,6 +54,19 @@ fn hears(socket: &UdpSocket, octets: &[u8]) -> Result<bool, Fail> {
     let mut piece = [0; 2048];
     let (len, _) = socket.recv_from(&mut piece)?;
     Ok(len == octets.len() && piece.starts_with(octets))
+}
+
+// Whether the next datagram of a socket comes from this address.
+fn hears_from<R: AllocGlobal>(rt: &R, socket: &UdpSocket, address: &str) -> Result<bool, Fail> {
+    let mut piece = [0; 2048];
+    let (_, from) = socket.recv_from(&mut piece)?;
+    Ok(format!(in rt.alloc(); "{from}")?.as_str() == address)
+}
+
+// The address of a port that is free.
+fn free_address<R: Net + AllocGlobal>(rt: &R) -> Result<String, Fail> {
+    let (_, here) = peer(rt, "127.0.0.1:0")?;
+    Ok(here)
 }
 
 // What a link answers next.
@@ -82,7 +106,8 @@ fn each_object_of_a_line_stands_at_its_place(rt: HostRuntime) -> Result<(), Fail
         there.as_str(),
         "127.0.0.1:0 astray",
     )?;
-    let Started::Open(mut gateway) = start(&rt, &words) else {
+    let mut notes = no_notes(rt.alloc())?;
+    let Started::Open(mut gateway) = start(&rt, &words, &mut notes) else {
         return Err(Fail::from("no gateway"));
     };
     assert_eq!(rt; answer_at(&mut gateway.links, 0), Some(Ok(Received::Idle)));
@@ -108,7 +133,8 @@ fn a_reply_by_the_later_protocol_is_sent_by_it(rt: HostRuntime) -> Result<(), Fa
     }
     let (socket, there) = peer(&rt, "[::1]:0")?;
     let words = serve_words(rt.alloc(), "later", 1, there.as_str(), "127.0.0.1:0")?;
-    let Started::Open(mut gateway) = start(&rt, &words) else {
+    let mut notes = no_notes(rt.alloc())?;
+    let Started::Open(mut gateway) = start(&rt, &words, &mut notes) else {
         return Err(Fail::from("no gateway"));
     };
     assert_eq!(rt; gateway.reply.send(b"spoken"), Ok(()));
@@ -120,13 +146,32 @@ fn a_reply_by_the_later_protocol_is_sent_by_it(rt: HostRuntime) -> Result<(), Fa
 }
 
 #[test]
+fn return_speech_leaves_from_the_first_socket(rt: HostRuntime) -> Result<(), Fail> {
+    let (socket, there) = peer(&rt, "127.0.0.1:0")?;
+    let here = free_address(&rt)?;
+    let listen = format!(in rt.alloc(); "{here} 127.0.0.1:0")?;
+    let words = serve_words(rt.alloc(), "first", 500, there.as_str(), listen.as_str())?;
+    let mut notes = no_notes(rt.alloc())?;
+    let Started::Open(mut gateway) = start(&rt, &words, &mut notes) else {
+        return Err(Fail::from("no gateway"));
+    };
+    assert_eq!(rt; gateway.reply.send(b"spoken"), Ok(()));
+    assert!(rt; hears_from(&rt, &socket, here.as_str())?);
+    for path in ["first.heard", "first.player", "first.0", "first.1"] {
+        fs::remove_file(&rt, path)?;
+    }
+    Ok(())
+}
+
+#[test]
 fn sockets_live_a_second_longer_than_their_ticks(rt: HostRuntime) -> Result<(), Fail> {
     let alloc = rt.alloc();
     let short = serve_words(alloc, "short", 10, "127.0.0.1:9", "127.0.0.1:0")?;
     let long = serve_words(alloc, "long", 1000, "127.0.0.1:9", "127.0.0.1:0")?;
+    let mut notes = no_notes(alloc)?;
     let (Started::Open(mut short), Started::Open(mut long)) = (
-        start(&rt, &short),
-        start(&rt, &long),
+        start(&rt, &short, &mut notes),
+        start(&rt, &long, &mut notes),
     ) else {
         return Err(Fail::from("no gateway"));
     };
@@ -148,13 +193,22 @@ fn sockets_live_a_second_longer_than_their_ticks(rt: HostRuntime) -> Result<(), 
     Ok(())
 }
 
+const SILENT: &str = "ticks 0 frames 0 erasures 0 idle 3
+link 0 datagrams 0 accepted 0 duplicate 0 late 0 beyond 0 refused 0 stranger 0 rtcp 0 empty 0
+";
+
 #[test]
 fn a_line_runs_over_sockets_and_files(rt: HostRuntime) -> Result<(), Fail> {
     let (socket, there) = peer(&rt, "127.0.0.1:0")?;
     fs::write(&rt, "line.said", [0u8; 320].as_slice())?;
     let words = serve_words(rt.alloc(), "line", 3, there.as_str(), "127.0.0.1:0")?;
-    let started = start(&rt, &words);
-    assert_eq!(rt; run_on(&rt, rt.alloc(), &words, started), Status::Done);
+    let mut notes = no_notes(rt.alloc())?;
+    let started = start(&rt, &words, &mut notes);
+    assert_eq!(rt;
+        run_on(&rt, rt.alloc(), &words, started, &mut notes),
+        Status::Done
+    );
+    assert!(rt; noted(&notes, SILENT));
     assert!(rt; had(&rt, "line.said", &[0; 320])? && had(&rt, "line.heard", &[0; 960])?);
     assert!(rt;
         had(
@@ -179,7 +233,9 @@ fn journals_are_judged_in_the_order_of_the_words(rt: HostRuntime) -> Result<(), 
     fs::write(&rt, "judged.0", first.as_slice())?;
     fs::write(&rt, "judged.1", second.as_slice())?;
     let words = words_of(alloc, "verify judged.order judged.player judged.0 judged.1")?;
-    assert!(rt; matches!(start(&rt, &words), Started::Ended(Status::Done)));
+    let mut notes = no_notes(alloc)?;
+    assert!(rt; matches!(start(&rt, &words, &mut notes), Started::Ended(Status::Done)));
+    assert!(rt; noted(&notes, "legal 3\n"));
     assert!(rt; had(&rt, "judged.order", b"0\n1\np\n")? && had(&rt, "judged.player", &player)?);
     assert!(rt; had(&rt, "judged.0", &first)? && had(&rt, "judged.1", &second)?);
     Ok(())
@@ -188,9 +244,18 @@ fn journals_are_judged_in_the_order_of_the_words(rt: HostRuntime) -> Result<(), 
 #[test]
 fn words_that_name_nothing_end_at_once(rt: HostRuntime) -> Result<(), Fail> {
     let none = words_of(rt.alloc(), "simulat a b")?;
-    assert!(rt; matches!(start(&rt, &none), Started::Ended(Status::Usage)));
+    let mut notes = no_notes(rt.alloc())?;
+    assert!(rt; matches!(start(&rt, &none, &mut notes), Started::Ended(Status::Usage)));
+    assert!(rt; noted(&notes, "usage\n"));
     let astray = words_of(rt.alloc(), "decode no-such-file unread.speech")?;
-    assert!(rt; matches!(start(&rt, &astray), Started::Ended(Status::ReadFault)));
+    let mut notes = no_notes(rt.alloc())?;
+    assert!(rt;
+        matches!(
+            start(&rt, &astray, &mut notes),
+            Started::Ended(Status::ReadFault)
+        )
+    );
+    assert!(rt; noted(&notes, ""));
     assert!(rt; had(&rt, "unread.speech", b"")?);
     Ok(())
 }

@@ -27,6 +27,7 @@ mod verify;
 
 use crate::starting::{run_on, start};
 use crate::status::{Status, code_of};
+use gate_os::OsSink;
 use std::alloc::AllocError;
 use std::env;
 use std::process::ExitCode;
@@ -46,8 +47,9 @@ fn main(rt: HostRuntime) -> ExitCode {
     let Ok(words) = words_of(&rt) else {
         return code_of(Status::OutOfMemory);
     };
-    let started = start(&rt, &words);
-    code_of(run_on(&rt, rt.alloc(), &words, started))
+    let mut notes = OsSink::standard(&rt);
+    let started = start(&rt, &words, &mut notes);
+    code_of(run_on(&rt, rt.alloc(), &words, started, &mut notes))
 }
 
 #[cfg(test)]
