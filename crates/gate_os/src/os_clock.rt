@@ -3,7 +3,7 @@ ghost use Rattle.std.specs.Prelude.{◌≡◌, ◌+◌, ◌-◌, ◌==◌, true,
 ghost use Rattle.gate_io.specs.Clocks.{Waits, ClockState};
 ghost use Rattle.gate_io.specs.declared.tick_clock.TickNext.{TickNext};
 
-use crate::times::{left_to, time_of};
+use crate::times::left_to;
 use gate_io::{TickClock, TickNext};
 use std::marker::Model;
 use std::thread;
@@ -49,14 +49,13 @@ impl<'a, R: Clock + Sync> OsClock<'a, R> {
     }
 }
 
-/// How long to wait for the tick of this number, counted from 1. Where the clock cannot be read that is one tick.
-fn wait_for<R: Clock>(rt: &R, start: Option<Instant>, tick: u64) -> Duration {
-    let Some(start) = start else {
-        return time_of(1);
-    };
-    match start.elapsed(rt) {
-        Ok(passed) => left_to(tick, passed),
-        Err(_) => time_of(1),
+impl<'a, R: Clock> OsClock<'a, R> {
+    // The time since the start, where the clock can be read.
+    fn passed(&self) -> Option<Duration> {
+        match self.start {
+            Some(start) => start.elapsed(self.rt).ok(),
+            None => None,
+        }
     }
 }
 
@@ -77,7 +76,7 @@ impl<'a, R: Clock> TickClock for OsClock<'a, R> {
             return TickNext::Ended;
         }
         self.given += 1;
-        thread::sleep(self.rt, wait_for(self.rt, self.start, self.given));
+        thread::sleep(self.rt, left_to(self.given, self.passed()));
         TickNext::Tick
     }
 }

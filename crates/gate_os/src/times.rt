@@ -1,5 +1,5 @@
 // Times of ticks, how long a link lasts and waits, and moments of datagrams.
-ghost use Rattle.std.specs.Prelude.{◌≡◌, ◌-◌, ◌/◌, ◌%◌, ◌^◌};
+ghost use Rattle.std.specs.Prelude.{◌≡◌, ◌-◌, ◌/◌, ◌%◌, ◌^◌, None, IfSome};
 ghost use Rattle.std.specs.Duration.{as_nanos};
 ghost use Rattle.gate_os.specs.Edges.{lasting, millis, ticks_time};
 
@@ -19,11 +19,16 @@ pub(crate) fn time_of(ticks: u64) -> Duration
     Duration::from_millis(ticks.saturating_mul(TICK))
 }
 
-/// What is left to the time of a tick, counted from 1, where so much has passed: nothing where it is over.
-pub(crate) fn left_to(tick: u64, passed: Duration) -> Duration
-    ensures { as_nanos result ≡ ticks_time tick - as_nanos passed }
+/// What is left to the time of a tick, counted from 1, where so much has passed: nothing where it is over. Where it is not
+/// known what has passed, that is one tick.
+pub(crate) fn left_to(tick: u64, passed: Option<Duration>) -> Duration
+    ensures known { IfSome passed (λ p. as_nanos result ≡ ticks_time tick - as_nanos p) }
+    ensures unknown { passed ≡ None → as_nanos result ≡ ticks_time 1 }
 {
-    time_of(tick).saturating_sub(passed)
+    match passed {
+        Some(passed) => time_of(tick).saturating_sub(passed),
+        None => time_of(1),
+    }
 }
 
 /// How long a link lasts that is to be there a second longer than so many ticks.

@@ -313,6 +313,29 @@ mod tests {
         Ok(())
     }
 
+    // Whether speech goes to its address also behind a datagram of another sender, which came to this one.
+    fn stays<R: Net + Clock + Wait + Sync + AllocGlobal>(
+        rt: &R,
+        link: &mut UdpLink<'_, R>,
+        here: &str,
+        far: &mut UdpLink<'_, R>,
+    ) -> Result<bool, Fail> {
+        let (mut other, _) = free(rt, here, 1000)?;
+        let came = sends(&mut other, b"another") && hears(link, b"another");
+        Ok(came && sends(link, b"speech") && hears(far, b"speech"))
+    }
+
+    #[test]
+    fn a_given_address_stays(rt: HostRuntime) -> Result<(), Fail> {
+        let (mut far, at_far) = free(&rt, "", 1000)?;
+        let (mut fixed, at_fixed) = free(&rt, at_far.as_str(), 1000)?;
+        assert!(rt; stays(&rt, &mut fixed, at_fixed.as_str(), &mut far)?);
+        let (near, at_near) = free(&rt, "", 1000)?;
+        let mut back = near.answering(rt.alloc(), at_far.as_str(), 1000)?;
+        assert!(rt; stays(&rt, &mut back, at_near.as_str(), &mut far)?);
+        Ok(())
+    }
+
     #[test]
     fn answers_without_a_port_of_its_own(rt: HostRuntime) -> Result<(), Fail> {
         let (mut far, at_far) = free(&rt, "", 1000)?;
@@ -321,6 +344,20 @@ mod tests {
         assert!(rt; sends(&mut alone, b"alone") && hears(&mut far, b"alone"));
         let mut astray = far.answering(rt.alloc(), "no address", 1000)?;
         assert!(rt; has_failed(&mut astray));
+        Ok(())
+    }
+
+    #[test]
+    fn answers_over_the_later_protocol(rt: HostRuntime) -> Result<(), Fail> {
+        let (near, _) = free(&rt, "", 1000)?;
+        let mut far = UdpLink::bind(&rt, rt.alloc(), "[::1]:0", "", 1000)?;
+        // A machine with the earlier protocol alone has nothing to show.
+        let Some(socket) = &far.inside else {
+            return Ok(());
+        };
+        let at_far = format!(in rt.alloc(); "{}", socket.here()?)?;
+        let mut back = near.answering(rt.alloc(), at_far.as_str(), 1000)?;
+        assert!(rt; sends(&mut back, b"later") && hears(&mut far, b"later"));
         Ok(())
     }
 
