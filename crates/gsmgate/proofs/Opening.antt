@@ -17,7 +17,7 @@ use Rattle.gsmgate.specs.Gateway.{AreFresh, IsFresh, IsOpenedAt, IsQuiet, Starts
 use Rattle.gsmgate.specs.Places.{ArePlaces, journals_from, journals_of}
 use Rattle.gsmgate.specs.declared.places.Places.{Places}
 use Rattle.gsmgate.specs.declared.starting.Started.TheVariants.{Ended, Open}
-use Rattle.gsmgate.specs.declared.status.Status.TheVariants.{Usage, OutOfMemory}
+use Rattle.gsmgate.specs.declared.status.Status.TheVariants.{OutOfMemory}
 
 all-more : (P : SocketState → Type 0) (xs : List SocketState) (x : SocketState) → AllByRecursion P xs → P x → AllByRecursion P (xs ++ x ∷ [])
 all-more P [] x all one = (one, tt)
