@@ -1,5 +1,5 @@
 // The objects of a line of serve.
-ghost use Rattle.std.specs.Prelude.{◌≡◌, ◌⊎◌, None, false, map, length, IfOk, IfSome};
+ghost use Rattle.std.specs.Prelude.{◌≡◌, ◌≤◌, ◌⊎◌, None, false, map, length, IfOk, IfSome};
 ghost use Rattle.std.specs.String.{string_bytes};
 ghost use Rattle.std.specs.Io.KnownBytes.{Appends};
 ghost use Rattle.command_line.specs.Lines.{fits_serve};
@@ -69,13 +69,10 @@ fn open_reply<'a, R: Net + Clock + Wait + Sync + AllocGlobal>(
     links: &[UdpLink<'a, R>],
     places: &Places,
 ) -> Result<UdpLink<'a, R>, OutOfMemory>
+    requires { 1 ≤ length links.now }
     ensures { IfOk result (IsReply (lasting places.now.ticks)) }
 {
-    let there = places.reply.as_str();
-    match links.first() {
-        Some(link) => link.answering(rt.alloc(), there, places.ticks),
-        None => UdpLink::bind(rt, rt.alloc(), "0.0.0.0:0", there, places.ticks),
-    }
+    links[0].answering(rt.alloc(), places.reply.as_str(), places.ticks)
 }
 
 // A file for each of these paths.
@@ -92,11 +89,12 @@ fn create_all<'a, R: Files + Print + Sync + AllocGlobal>(
     Ok(sinks)
 }
 
-/// Opens the sockets and the files that a line of serve names. The clock starts last.
+/// Opens the sockets and the files that a line of serve names, which are one link or more. The clock starts last.
 pub fn open_gateway<'a, R: Net + Clock + Wait + Files + Print + Sync + AllocGlobal>(
     rt: &'a R,
     places: &Places,
 ) -> Result<OsGateway<'a, R>, OutOfMemory>
+    requires { 1 ≤ length places.now.links.items }
     ensures { IfOk result (IsOpenedAt places.now) }
 {
     let links = bind_all(rt, places)?;

@@ -2,6 +2,7 @@
 ghost use Rattle.std.specs.Prelude.{◌≡◌, ◌⊎◌, ◌++◌, None, IsSome, IfOk, IfErr, IfSome, IsErrOf, codes, decimal, map};
 ghost use Rattle.std.specs.String.{string_bytes};
 ghost use Rattle.command_line.specs.Lines.{line_of};
+ghost use Rattle.command_line.specs.Ranges.{IsWithin};
 ghost use Rattle.gsmgate.specs.Places.{AreFilePlaces, ArePlaces, AreServePlaces, journals_of};
 
 use crate::status::Status;
@@ -124,6 +125,7 @@ fn places_of(alloc: Global, line: &Line<'_>) -> Result<Places, AllocError>
 pub fn addresses(alloc: Global, words: &Vec<String>) -> Result<Places, Status>
     ensures ok { IfOk result (λ p. IfSome (line_of (map string_bytes words.now.items)) (λ said. ArePlaces said p)) }
     ensures line { IfOk result (λ p. IsSome (line_of (map string_bytes words.now.items))) }
+    ensures within { IfOk result (λ p. IfSome (line_of (map string_bytes words.now.items)) IsWithin) }
     ensures usage { IsErrOf result Status.Usage → line_of (map string_bytes words.now.items) ≡ None }
     ensures only { IfErr result (λ e. (e ≡ Status.Usage) ⊎ (e ≡ Status.OutOfMemory)) }
 {
