@@ -1,22 +1,15 @@
 -- From the loop over the frames to the whole command.
-use Rattle.std.proofs.Common.{◌≡◌, ℕ, ◌≤◌, List, [], length, take, Option, Some, None, Ok, sym, subst, arith}
+use Rattle.std.proofs.Common.{◌≡◌, ℕ, ◌≤◌, List, length, take, Option, Some, Ok, inr, sym, subst, arith}
 use Rattle.std.specs.Prelude.{ℤ, IfSome}
 use Rattle.std.specs.List.{AllByRecursion}
 use Rattle.frame_codec.specs.Octets.{IsFrame}
 use Rattle.gate_io.specs.Flow.{AppendsPart}
-use Rattle.gate_io.specs.FlowLaws.{AppendsPart-whole}
 use Rattle.gsmgate.specs.declared.status.Status.TheVariants.{Input, WriteFault}
 use Rattle.gsmgate.specs.Decode.{BeginsWith, Ends, coded, frame_fault, frame_limit}
 use Rattle.gsmgate.specs.DecodeRuns.{HasDecoded}
 use Rattle.gsmgate.specs.Exchange.{Exchange}
 use Rattle.gsmgate.specs.Notes.{frames_line}
-use Rattle.substitution.specs.Heard.{sample_octets}
 use Rattle.gsmgate.proofs.Decoding.{no-frame-fault}
-
--- nothing is said of the octets that follow
-weaker : (frames : List (List ℕ)) (Q : List ℕ → Type 0) (input : Option (List ℕ)) → IfSome input (BeginsWith frames Q) → IfSome input (BeginsWith frames (λ rest. Unit {0}))
-weaker frames Q None p = tt
-weaker frames Q (Some x) p = (p.0, p.1, tt)
 
 -- the frames were not noted whole
 pub cut : (x : Exchange) (frames : List (List ℕ)) (samples : List ℤ) (n : ℕ) → HasDecoded (Ok n) x.input x.output x.output_now frames samples → AppendsPart x.notes x.notes_now (frames_line n) → Ends WriteFault x
@@ -24,9 +17,7 @@ cut x frames samples n ran noted = (
   frames,
   samples,
   ran.decoded,
-  weaker frames (λ rest. rest ≡ []) x.input ran.text,
-  AppendsPart-whole x.output x.output_now (sample_octets samples) ran.given,
-  subst (λ (k : ℕ). AppendsPart x.notes x.notes_now (frames_line k)) ran.counted noted,
+  inr (ran.text, ran.given, subst (λ (k : ℕ). AppendsPart x.notes x.notes_now (frames_line k)) ran.counted noted),
 )
 
 -- whole frames are not refused

@@ -1,9 +1,8 @@
 -- From the loop over the pieces to the whole command.
-use Rattle.std.proofs.Common.{◌≡◌, ◌≢◌, ℕ, ◌*◌, ◌≤◌, List, [], length, Option, Some, None, Ok, subst, arith}
+use Rattle.std.proofs.Common.{◌≡◌, ◌≢◌, ℕ, ◌*◌, ◌≤◌, List, [], length, Option, Some, Ok, inr, subst, arith}
 use Rattle.std.specs.Prelude.{IfSome}
 use Rattle.gate_io.specs.Flow.{AppendsPart}
-use Rattle.gate_io.specs.FlowLaws.{AppendsPart-whole}
-use Rattle.gsmgate.specs.Decode.{coded, frame_limit}
+use Rattle.gsmgate.specs.Decode.{frame_limit}
 use Rattle.gsmgate.specs.Encode.{Begins, Ends}
 use Rattle.gsmgate.specs.EncodeRuns.{HasEncoded}
 use Rattle.gsmgate.specs.Exchange.{Exchange}
@@ -11,19 +10,13 @@ use Rattle.gsmgate.specs.Notes.{frames_line}
 use Rattle.gsmgate.specs.declared.status.Status.TheVariants.{Input, WriteFault}
 use Rattle.gsmgate.proofs.Encoding.{long}
 
-weaker : (pieces : List (List ℕ)) (Q : List ℕ → Type 0) (input : Option (List ℕ)) → IfSome input (Begins pieces Q) → IfSome input (Begins pieces (λ rest. Unit {0}))
-weaker pieces Q None p = tt
-weaker pieces Q (Some x) p = (p.0, p.1, tt)
-
 -- the frames were not noted whole
 pub cut : (x : Exchange) (pieces frames : List (List ℕ)) (n : ℕ) → HasEncoded (Ok n) x.input x.output x.output_now pieces frames → AppendsPart x.notes x.notes_now (frames_line n) → Ends WriteFault x
 cut x pieces frames n ran noted = (
   pieces,
   frames,
   ran.encoded,
-  weaker pieces (λ rest. rest ≡ []) x.input ran.text,
-  AppendsPart-whole x.output x.output_now (coded frames) ran.given,
-  subst (λ (k : ℕ). AppendsPart x.notes x.notes_now (frames_line k)) ran.counted noted,
+  inr (ran.text, ran.given, subst (λ (k : ℕ). AppendsPart x.notes x.notes_now (frames_line k)) ran.counted noted),
 )
 
 -- an input that is not too long is not refused

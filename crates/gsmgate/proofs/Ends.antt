@@ -41,11 +41,6 @@ noted-after : (a b c : Option (List ℕ)) (counts counts' now : ℕ) (bs line : 
 noted-after a b c counts counts' now bs line p le (inl q) = inl (Appends-trans a b c bs line p q)
 noted-after a b c counts counts' now bs line p le (inr (q, r)) = inr (AppendsPart-after a b c bs line p q, omega arith)
 
--- nothing is said of the octets that follow
-weaker : (h : Heading) (events : List ScriptEvent) (Q : List ℕ → Type 0) (input : Option (List ℕ)) → IfSome input (Begins h events Q) → IfSome input (Begins h events (λ rest. Unit {0}))
-weaker h events Q None p = tt
-weaker h events Q (Some x) p = (p.0, p.1, tt)
-
 -- the head has a fault, and nothing was given but the fault's line
 pub head-refused : (voice : Option (List ℕ)) (x : Exchange) (f : RecordFault) → x.output_now ≡ x.output → IfSome x.input (λ octets. head_fault script_magic (take 12 octets) ≡ Some f)
     → GainedUnlessFault x.notes x.notes_now x.noted x.noted_now (fault_line 0 f) → Ends voice Input x
@@ -61,9 +56,11 @@ module _ (voice : Option (List ℕ)) (x : Exchange) (h : Heading) (mid : Option 
     front_text start h ++ [],
     record { head = is; fit = tt; few = omega arith; last = opening_callers h; turns_are = refl; legal = tt },
     is-played voice h [] [] start start stands (GoesOn-none start),
-    begins h x.input mid [] (λ rest. Unit {0}) read (nothing mid),
-    AppendsPart-longer x.output x.output_now (front_text start h ++ []) (ending voice) (AppendsPart-longer x.output x.output_now (front_text start h) [] part),
-    (0, subst (λ (o : Option (List ℕ)). Appends x.notes o []) (sym same) (Appends-nil x.notes)),
+    inl (
+      begins h x.input mid [] (λ rest. Unit {0}) read (nothing mid),
+      AppendsPart-longer x.output x.output_now (front_text start h) [] part,
+      (0, subst (λ (o : Option (List ℕ)). Appends x.notes o []) (sym same) (Appends-nil x.notes)),
+    ),
   )
     where
       nothing : (mid : Option (List ℕ)) → IfSome mid (λ octets. (rest : List ℕ) × (octets ≡ [] ++ rest) × Unit {0})
@@ -116,9 +113,11 @@ module _ (voice : Option (List ℕ)) (x : Exchange) (h : Heading) (mid : Option 
       front_text start h ++ ran.played,
       run-is ran,
       played-is ran,
-      begins h x.input mid events (λ rest. Unit {0}) read ran.text,
-      AppendsPart-longer x.output x.output_now (front_text start h ++ ran.played) (ending voice) (AppendsPart-after x.output given x.output_now (front_text start h) ran.played front ran.given),
-      AppendsPart-longer x.notes x.notes_now (run_lines turns) (summary h.filers turns) ran.noted,
+      inl (
+        begins h x.input mid events (λ rest. Unit {0}) read ran.text,
+        AppendsPart-after x.output given x.output_now (front_text start h) ran.played front ran.given,
+        ran.noted,
+      ),
     )
 
     -- the loop came to the end mark
@@ -141,16 +140,35 @@ module _ (voice : Option (List ℕ)) (x : Exchange) (h : Heading) (mid : Option 
         Appends-trans x.output now x.output_now (front_text start h ++ ran.played) (ending voice) (Appends-trans x.output given now (front_text start h) ran.played front ran.given) (subst (Appends now x.output_now) end-is mark),
         Appends-trans x.notes noted x.notes_now (run_lines turns) (summary h.filers turns) ran.noted (subst (Appends noted x.notes_now) summed text),
       )
-      finished WriteFault (mark, text) = (
+      finished WriteFault (inl (mark, same)) = (
         h,
         events,
         turns,
         front_text start h ++ ran.played,
         run-is ran,
         played-is ran,
-        weaker h events (λ rest. (more : List ℕ) × (rest ≡ end_mark ∷ more)) x.input (begins h x.input mid events (λ rest. (more : List ℕ) × (rest ≡ end_mark ∷ more)) read ran.text),
-        AppendsPart-after x.output now x.output_now (front_text start h ++ ran.played) (ending voice) (Appends-trans x.output given now (front_text start h) ran.played front ran.given) (subst (AppendsPart now x.output_now) end-is mark),
-        AppendsPart-after x.notes noted x.notes_now (run_lines turns) (summary h.filers turns) ran.noted (subst (AppendsPart noted x.notes_now) summed text),
+        inr (
+          begins h x.input mid events (λ rest. (more : List ℕ) × (rest ≡ end_mark ∷ more)) read ran.text,
+          inl (
+            AppendsPart-after x.output now x.output_now (front_text start h ++ ran.played) (ending voice) (Appends-trans x.output given now (front_text start h) ran.played front ran.given) (subst (AppendsPart now x.output_now) end-is mark),
+            subst (λ (o : Option (List ℕ)). Appends x.notes o (run_lines turns)) (sym same) ran.noted,
+          ),
+        ),
+      )
+      finished WriteFault (inr (mark, text)) = (
+        h,
+        events,
+        turns,
+        front_text start h ++ ran.played,
+        run-is ran,
+        played-is ran,
+        inr (
+          begins h x.input mid events (λ rest. (more : List ℕ) × (rest ≡ end_mark ∷ more)) read ran.text,
+          inr (
+            Appends-trans x.output now x.output_now (front_text start h ++ ran.played) (ending voice) (Appends-trans x.output given now (front_text start h) ran.played front ran.given) (subst (Appends now x.output_now) end-is mark),
+            AppendsPart-after x.notes noted x.notes_now (run_lines turns) (summary h.filers turns) ran.noted (subst (AppendsPart noted x.notes_now) summed text),
+          ),
+        ),
       )
       finished Illegal never = absurd never
       finished Usage never = absurd never

@@ -1,5 +1,5 @@
 -- What `decode` does: coded frames become speech.
-use Rattle.std.specs.Prelude.{ℕ, ◌≡◌, ◌≤◌, ◌+◌, ◌*◌, ◌/◌, ◌==◌, List, [], ◌∷◌, ◌++◌, length, take, ℤ, Option, Some, None, IfSome, nat_le, nat_lt, if◌then◌else◌}
+use Rattle.std.specs.Prelude.{◌⊎◌, ℕ, ◌≡◌, ◌≤◌, ◌+◌, ◌*◌, ◌/◌, ◌==◌, List, [], ◌∷◌, ◌++◌, length, take, ℤ, Option, Some, None, IfSome, nat_le, nat_lt, if◌then◌else◌}
 use Rattle.std.specs.List.{flat_map, AllByRecursion}
 use Rattle.frame_codec.specs.Frame.{Fields, IsWithinWidths, Spells}
 use Rattle.frame_codec.specs.Octets.{IsFrame}
@@ -66,11 +66,12 @@ Stopped x = (frames : List (List ℕ)) × (samples : List ℤ) × IsDecoded fram
     × IfSome x.input (BeginsWith frames (λ rest. Unit {0}))
     × Gave x (sample_octets samples) × Noted x []
 
--- a give failed: the output and the notes have a front of what some frames would give in the end
+-- A give failed: one of some frames' speech, of which the output has a front, and nothing is noted; or that of the count behind the
+-- input's end, and the output has all of the speech.
 abbrev pub Broken : Exchange → Type 0
 Broken x = (frames : List (List ℕ)) × (samples : List ℤ) × IsDecoded frames samples
-    × IfSome x.input (BeginsWith frames (λ rest. Unit {0}))
-    × GavePart x (sample_octets samples) × NotedPart x (frames_line (length frames))
+    × ((IfSome x.input (BeginsWith frames (λ rest. Unit {0})) × GavePart x (sample_octets samples) × Noted x [])
+    ⊎ (IfSome x.input (BeginsWith frames (λ rest. rest ≡ [])) × Gave x (sample_octets samples) × NotedPart x (frames_line (length frames))))
 
 -- what each status says
 abbrev pub Ends : Status → Exchange → Type 0

@@ -1,5 +1,5 @@
 -- What `encode` does: speech becomes coded frames.
-use Rattle.std.specs.Prelude.{ℕ, ◌≡◌, ◌≢◌, ◌≤◌, ◌*◌, List, [], length, ℤ, Option, Some, IfSome, flat_map}
+use Rattle.std.specs.Prelude.{◌⊎◌, ℕ, ◌≡◌, ◌≢◌, ◌≤◌, ◌*◌, List, [], length, ℤ, Option, Some, IfSome, flat_map}
 use Rattle.std.specs.List.{AllByRecursion}
 use Rattle.frame_codec.specs.Frame.{Fields}
 use Rattle.frame_codec.specs.Octets.{IsFrame}
@@ -43,10 +43,12 @@ abbrev pub Stopped : Exchange → Type 0
 Stopped x = (pieces frames : List (List ℕ)) × IsEncoded pieces frames × IfSome x.input (Begins pieces (λ rest. Unit {0}))
     × Gave x (coded frames) × Noted x []
 
--- a give failed: the output and the notes have a front of what some pieces would give in the end
+-- A give failed: one of some pieces' frames, of which the output has a front, and nothing is noted; or that of the count behind the
+-- input's end, and the output has all of the frames.
 abbrev pub Broken : Exchange → Type 0
-Broken x = (pieces frames : List (List ℕ)) × IsEncoded pieces frames × IfSome x.input (Begins pieces (λ rest. Unit {0}))
-    × GavePart x (coded frames) × NotedPart x (frames_line (length frames))
+Broken x = (pieces frames : List (List ℕ)) × IsEncoded pieces frames
+    × ((IfSome x.input (Begins pieces (λ rest. Unit {0})) × GavePart x (coded frames) × Noted x [])
+    ⊎ (IfSome x.input (Begins pieces (λ rest. rest ≡ [])) × Gave x (coded frames) × NotedPart x (frames_line (length frames))))
 
 -- what each status says
 abbrev pub Ends : Status → Exchange → Type 0

@@ -1,5 +1,5 @@
 -- What the loop over a script's events does.
-use Rattle.std.specs.Prelude.{ℕ, ◌≡◌, ◌≤◌, ◌^◌, List, ◌∷◌, ◌++◌, length, Option, Some, Ok, Err, Result, IfSome}
+use Rattle.std.specs.Prelude.{ℕ, ◌≡◌, ◌≤◌, ◌^◌, ◌⊎◌, List, ◌∷◌, ◌++◌, length, Option, Some, Ok, Err, Result, IfSome}
 use Rattle.std.specs.List.{flat_map, AllByRecursion}
 use Rattle.std.specs.Io.KnownBytes.{Appends}
 use Rattle.gate_io.specs.Flow.{AppendsPart}
@@ -72,10 +72,11 @@ pub record Ran (h : Heading) (playback playback_now : Playback) (input before no
   pub noted : Has result notes notes_now (run_lines turns)
   pub counted : HasCounted result h turns
 
--- the output's end and the summary were given, or a front of each where a give failed
+-- the output's end and then the summary were given, or a front of the one whose give failed
 abbrev pub Finishes : Status → Option (List ℕ) → Option (List ℕ) → Option (List ℕ) → Option (List ℕ) → List ℕ → List ℕ → Type 0
 Finishes status.Done before now notes notes_now last text = Appends before now last × Appends notes notes_now text
-Finishes status.WriteFault before now notes notes_now last text = AppendsPart before now last × AppendsPart notes notes_now text
+Finishes status.WriteFault before now notes notes_now last text =
+    (AppendsPart before now last × (notes_now ≡ notes)) ⊎ (Appends before now last × AppendsPart notes notes_now text)
 Finishes status.Illegal before now notes notes_now last text = ⊥
 Finishes status.Usage before now notes notes_now last text = ⊥
 Finishes status.Input before now notes notes_now last text = ⊥

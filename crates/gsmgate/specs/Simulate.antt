@@ -62,12 +62,18 @@ Stopped voice x =
     × Gave x text
     × Noted x (run_lines turns))
 
--- a give failed: the output and the notes have a front of what some events would give in the end
+-- behind the end mark one of the last gives failed: that of the output's end, before the summary; or that of the summary
+abbrev pub BrokenAtEnd : Option (List ℕ) → Heading → List Turn → List ℕ → Exchange → Type 0
+BrokenAtEnd voice h turns text x =
+    (GavePart x (text ++ ending voice) × Noted x (run_lines turns))
+    ⊎ (Gave x (text ++ ending voice) × NotedPart x (run_lines turns ++ summary h.filers turns))
+
+-- A give failed: one of the head or of an event, where the output and the notes have a front of what the events give; or one behind the end
+-- mark.
 abbrev pub Broken : Option (List ℕ) → Exchange → Type 0
 Broken voice x = (h : Heading) × (events : List ScriptEvent) × (turns : List Turn) × (text : List ℕ) × IsRun h events turns × IsPlayedOf voice h turns text
-    × IfSome x.input (Begins h events (λ rest. Unit {0}))
-    × GavePart x (text ++ ending voice)
-    × NotedPart x (run_lines turns ++ summary h.filers turns)
+    × ((IfSome x.input (Begins h events (λ rest. Unit {0})) × GavePart x text × NotedPart x (run_lines turns))
+    ⊎ (IfSome x.input (Begins h events (λ rest. (more : List ℕ) × (rest ≡ end_mark ∷ more))) × BrokenAtEnd voice h turns text x))
 
 -- What each status says. The output is a journal, or PCM where there is the seed of a voice.
 abbrev pub Ends : Option (List ℕ) → Status → Exchange → Type 0

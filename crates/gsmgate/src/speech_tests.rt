@@ -26,6 +26,7 @@ fn frames_that_are_none_are_refused(rt: HostRuntime) -> Result<(), Fail> {
     );
     let broken = run_over(alloc, "decode in out", &octets, 5, &[], &[(0, 7)])?;
     assert!(rt; broken.status == Status::WriteFault && broken.output.octets().len() == 7);
+    assert!(rt; broken.notes.octets().is_empty());
     let other = comes_to(
         alloc,
         "decode in out",
@@ -73,6 +74,7 @@ fn speech_is_encoded_piece_by_piece(rt: HostRuntime) -> Result<(), Fail> {
     assert!(rt; unread.status == Status::ReadFault && unread.output.octets().len() == 33);
     let broken = run_over(alloc, "encode in out", &octets, 7, &[], &[(1, 5)])?;
     assert!(rt; broken.status == Status::WriteFault && broken.output.octets().len() == 38);
+    assert!(rt; broken.notes.octets().is_empty());
     Ok(())
 }
 
