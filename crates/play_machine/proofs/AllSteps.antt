@@ -16,7 +16,7 @@ use Rattle.play_machine.proofs.Base.{base_keeps, base_again}
 use Rattle.play_machine.proofs.Core.{held_is}
 use Rattle.play_machine.proofs.Opening.{opens}
 use Rattle.play_machine.proofs.Closing.{gathered_is}
-use Rattle.play_machine.proofs.Fresh.{fresh_tick, fresh_word, fresh_filled, published_within}
+use Rattle.play_machine.proofs.Fresh.{fresh_tick, fresh_word, fresh_accepted, published_within}
 
 pub all_steps : AllStepsKeepTheRule
 all_steps k s rule =
@@ -46,7 +46,7 @@ all_fresh k s rule seat c at =
     record {
       played = λ w held f player below found holds has. fresh_tick k s rule seat c w held None at player below found holds f has;
       reached = λ i w found. fresh_word k s rule seat c i w at found;
-      filled = λ i n w f found has is. fresh_filled k s rule seat c i n w f at found has is;
+      accepted = λ n w f found has. fresh_accepted k s rule seat c n w f at found has;
       source = known.source;
       base = known.base;
     }

@@ -1,5 +1,5 @@
 -- What is known to be accepted is there until its tick.
-use Rattle.std.proofs.Common.{◌≡◌, ⊎_elim, ℕ, ◌+◌, ◌%◌, ◌^◌, ◌<◌, ◌≤◌, List, [], ◌∷◌, Option, Some, None, Bool, true, false, refl, sym, ap, ◌∙◌, subst, arith, le_trans}
+use Rattle.std.proofs.Common.{◌≡◌, ◌⊎◌, inl, inr, ⊎_elim, ℕ, ◌+◌, ◌%◌, ◌^◌, ◌<◌, ◌≤◌, List, [], ◌∷◌, Option, Some, None, Bool, true, false, refl, sym, ap, ◌∙◌, subst, arith, le_trans}
 use mathlib.Core.Option.{some}
 use lib.ListN.{get_elem?}
 use Rattle.std.specs.FinMap as map
@@ -12,9 +12,13 @@ use Rattle.play_machine.specs.History.{ticks, calls, Entry, after_all}
 use Rattle.play_machine.specs.Plays.{WasAccepted}
 use Rattle.play_machine.specs.declared.words.SlotWord.{SlotWord}
 use Rattle.play_machine.specs.declared.words.Cell.TheVariants.{AtHome}
-use Rattle.play_machine.specs.Ring.{Ring, RingRule, AllAccepted, Has, slot_count}
+use Rattle.play_machine.specs.Ring.{Ring, RingRule, SlotFits, AllAccepted, Has, slot_count}
 use Rattle.play_machine.specs.Steps.{caller_view, position_of, taken}
+use Rattle.play_machine.specs.RingLaws.{IsThere}
+use Rattle.std.proofs.lemmas.Bool.{cases_lt}
 use Rattle.play_machine.proofs.Accepted.{accepted_there}
+use Rattle.play_machine.proofs.Filed.{window_holds}
+use Rattle.play_machine.proofs.Told.{turn_apart}
 use Rattle.play_machine.proofs.Tick.{here, said}
 
 accepted_from : (ps : List (ℕ × List ℕ)) (h : List Entry) (n : ℕ) (f : List ℕ) → AllAccepted ps h → Has ps n f → WasAccepted n f h
@@ -34,23 +38,56 @@ fresh_tick k s rule id c w y z at player below found holds f has =
 none_absurd : (f : List ℕ) → Path (Option (List ℕ)) None (Some f) → ⊥
 none_absurd f e = cc
 
+some_one : (g f : List ℕ) → Path (Option (List ℕ)) (Some g) (Some f) → g ≡ f
+some_one g f e = cc
+
+lt_le_trans : {a b c : ℕ} → a < b → b ≤ c → a < c
+lt_le_trans lt le = omega (arith, lt, le)
+
+-- two numbers of one slot in one window are one
+one_in_window : (p r a b : ℕ) → p ≤ a → a < p + r → p ≤ b → b < p + r → a % r ≡ b % r → a ≡ b
+one_in_window p r a b la ha lb hb e = elim (cases_lt a b) [
+  | inl lt ↦ absurd (omega (arith, turn_apart a b r lt e, la, hb))
+  | inr ge ↦ elim (cases_lt b a) [
+    | inl lt ↦ absurd (omega (arith, turn_apart b a r lt (sym e), lb, ha))
+    | inr le ↦ omega (arith, ge, le)
+  ]
+]
+
 -- a word is at or above each position that is known
 pub fresh_word : (k : Shape) (s : Ring) (rule : RingRule k s) (id : ℕ) (c : Calling) (i : ℕ) (w : SlotWord) → get_elem? s.views id ≡ some (caller_view k c) → get_elem? s.slots i ≡ some w → c.known.position ≤ w.number
 fresh_word k s rule id c i w at found = le_trans (rule.role id (caller_view k c) at).1.position (rule.slot i w found).reached
 
--- the word of a number that is known to be accepted is filled, or has gone on
-pub fresh_filled : (k : Shape) (s : Ring) (rule : RingRule k s) (id : ℕ) (c : Calling) (i n : ℕ) (w : SlotWord) (f : List ℕ) → get_elem? s.views id ≡ some (caller_view k c) → get_elem? s.slots i ≡ some w → Has c.known.pairs n f → w.number ≡ n → w.filled ≡ true
-fresh_filled k s rule id c i n w f at found has is = go w.filled refl
-  where
-    m : Machine
-    m = after_all opening_machine rule.history
+-- the slot of a number that is known to be accepted has that frame, or has gone on
+module _ (k : Shape) (s : Ring) (rule : RingRule k s) (id : ℕ) (c : Calling) (n : ℕ) (w : SlotWord) (f : List ℕ) (at : get_elem? s.views id ≡ some (caller_view k c)) (found : get_elem? s.slots (n % slot_count k) ≡ some w) (has : Has c.known.pairs n f) where
+  abbrev m : Machine
+  m = after_all opening_machine rule.history
 
-    there : map.get m.frames w.number ≡ Some f
-    there = accepted_there (slot_count k) opening_machine rule.history w.number f rule.legal (rule.slot i w found).reached (subst (λ (q : ℕ). WasAccepted q f rule.history) (sym is) (accepted_from c.known.pairs rule.history n f (rule.role id (caller_view k c) at).1.pairs has))
+  fits : SlotFits (slot_count k) m s.cells (n % slot_count k) w
+  fits = rule.slot (n % slot_count k) w found
 
-    go : (b : Bool) → w.filled ≡ b → w.filled ≡ true
-    go true e = e
-    go false e = absurd (none_absurd f (sym ((rule.slot i w found).free e) ∙ there))
+  there : m.position ≤ n → map.get m.frames n ≡ Some f
+  there low = accepted_there (slot_count k) opening_machine rule.history n f rule.legal low (accepted_from c.known.pairs rule.history n f (rule.role id (caller_view k c) at).1.pairs has)
+
+  same : m.position ≤ n → w.number ≡ n
+  same low = let near : n < m.position + slot_count k = (window_holds (slot_count k) rule.history rule.legal n f (there low)).1 in
+      one_in_window m.position (slot_count k) w.number n fits.reached fits.near low near fits.congruent
+
+  held : m.position ≤ n → IsThere s w n f
+  held low = go w.filled refl
+    where
+      is : map.get m.frames w.number ≡ Some f
+      is = ap (λ (q : ℕ). map.get m.frames q) (same low) ∙ there low
+
+      go : (b : Bool) → w.filled ≡ b → IsThere s w n f
+      go false e = absurd (none_absurd f (sym (fits.free e) ∙ is))
+      go true e = let in_cell = fits.filled e in let one : in_cell.0 ≡ f = some_one in_cell.0 f (sym in_cell.1 ∙ is) in (same low, e, in_cell.2 ∙ ap (λ (g : List ℕ). some (AtHome (Some g))) one)
+
+  pub fresh_accepted : IsThere s w n f ⊎ (n < w.number)
+  fresh_accepted = elim (cases_lt n m.position) [
+    | inl past ↦ let low : m.position ≤ w.number = fits.reached in inr (lt_le_trans past low)
+    | inr come ↦ inl (held come)
+  ]
 
 -- what is published lies between the start and the last window
 pub published_within : (k : Shape) (s : Ring) (rule : RingRule k s) (i : ℕ) (w : SlotWord) → get_elem? s.slots i ≡ some w → (start ≤ w.number) × (w.number < 8589934592 + 1024)

@@ -8,6 +8,7 @@ pub mod Histories
 pub mod Accepted
 pub mod Once
 pub mod OneReply
+pub mod Causes
 pub mod Elements
 pub mod Seats
 pub mod Cells

@@ -14,7 +14,7 @@ use Rattle.play_machine.proofs.Told.{one_ahead}
 both : (o : Option (List ℕ)) → o ≡ None → is_some o ≡ true → ⊥
 both o none some = true≢false (sym some ∙ ap is_some none)
 
-one_file_reply : (r : ℕ) (m : Machine) (n : ℕ) (a b : FileReply) → FileReplies r m n a → FileReplies r m n b → a ≡ b
+pub one_file_reply : (r : ℕ) (m : Machine) (n : ℕ) (a b : FileReply) → FileReplies r m n a → FileReplies r m n b → a ≡ b
 one_file_reply r m n Accepted Accepted p q = refl
 one_file_reply r m n Accepted Duplicate p q = absurd (both (map.get m.frames n) p.2 q.2)
 one_file_reply r m n Accepted (Late x) p q = absurd (omega (arith, p.0, q.0))

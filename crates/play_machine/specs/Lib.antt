@@ -5,6 +5,7 @@ pub mod Line
 pub mod Pairs
 pub mod Inside
 pub mod Plays
+pub mod Causes
 pub mod Ring
 pub mod Steps
 pub mod Opening

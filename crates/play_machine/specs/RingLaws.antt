@@ -1,5 +1,5 @@
 -- What holds of the ring under every interleaving of its callers.
-use Rattle.std.specs.Prelude.{◌≡◌, ◌≢◌, ℕ, ◌+◌, ◌%◌, ◌<◌, ◌≤◌, ◌^◌, List, Option, Some, true, slice_get}
+use Rattle.std.specs.Prelude.{◌≡◌, ◌≢◌, ◌⊎◌, ℕ, ◌+◌, ◌%◌, ◌<◌, ◌≤◌, ◌^◌, List, Option, Some, true, slice_get}
 use mathlib.Core.Option.{some}
 use lib.ListN.{get_elem?}
 use Rattle.frame_codec.specs.declared.item.Item.TheVariants.{Frame}
@@ -57,6 +57,10 @@ AllStepsKeepTheRule = (k : Shape) (s : Ring) → RingRule k s → StepsKeepTheRu
 abbrev pub RuleHolds : Type 0
 RuleHolds = (k : Shape) (events : List CoreEvent) → 1 ≤ k.filers → k.filers ≤ 64 → k.g ≤ 10 → RingRule k (run k (opening_ring k) events)
 
+-- the word has this number, and its cell this frame
+abbrev pub IsThere : Ring → SlotWord → ℕ → List ℕ → Type 0
+IsThere s w n f = (w.number ≡ n) × (w.filled ≡ true) × (get_elem? s.cells w.cell ≡ some (AtHome (Some f)))
+
 -- what a caller knows shows in the words that it reads
 pub record KnownIsFresh (k : Shape) (s : Ring) (seat : ℕ) (c : Calling) : Type 0 where
   -- the player is played the frame that it knows to be accepted
@@ -64,8 +68,8 @@ pub record KnownIsFresh (k : Shape) (s : Ring) (seat : ℕ) (c : Calling) : Type
       → Has c.known.pairs (position_of c) f → taken w.filled held ≡ Frame f
   -- each slot has reached the positions that it knows
   pub reached : (i : ℕ) (w : SlotWord) → get_elem? s.slots i ≡ some w → c.known.position ≤ w.number
-  -- the slot of a number that it knows to be accepted is filled, or has gone on
-  pub filled : (i n : ℕ) (w : SlotWord) (f : List ℕ) → get_elem? s.slots i ≡ some w → Has c.known.pairs n f → w.number ≡ n → w.filled ≡ true
+  -- the slot of a number that it knows to be accepted has that frame under it, or has gone on
+  pub accepted : (n : ℕ) (w : SlotWord) (f : List ℕ) → get_elem? s.slots (n % slot_count k) ≡ some w → Has c.known.pairs n f → IsThere s w n f ⊎ (n < w.number)
   pub source : (x : ℕ) → c.known.source ≡ Some x → s.source ≡ word_of (Some x)
   pub base : (x : ℕ) → c.known.base ≡ Some x → s.base ≡ word_of (Some x)
 

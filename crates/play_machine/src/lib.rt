@@ -27,7 +27,10 @@ pub use core_state::CoreState;
 pub use event::CoreEvent;
 pub use gate_base::OutOfMemory;
 pub use interleaving::core_run;
-pub use laws::{accepted_once, ahead_is_least, replies_are_one, ticks_play_accepted};
+pub use laws::{
+    accepted_once, ahead_is_least, causes_are_one, causes_give_replies, first_is_held,
+    replies_are_one, replies_have_causes, ticks_play_accepted,
+};
 pub use lists::{CallList, Gathered, PairList, Rights};
 pub use map_filer::MapFiler;
 pub use map_line::MapLine;

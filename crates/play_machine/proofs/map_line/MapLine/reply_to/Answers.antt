@@ -1,4 +1,4 @@
-use Rattle.std.proofs.Common.{◌^◌, arith}
+use Rattle.std.proofs.Common.{arith}
 use Rattle.play_machine.specs.Pairs.{IsGapFor, IsAt}
 use Rattle.play_machine.proofs.Looked.{in_gap, in_place}
 use Rattle.play_machine.proofs.map_line.MapLine.reply_to.Goals as goal
