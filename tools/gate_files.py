@@ -285,13 +285,29 @@ class Parser:
             self.count += fields.get("count", 1)
 
 
-def read_file(octets):
-    """The head and the events of a whole file, or the first fault."""
+def read_events(octets):
+    """The events of a whole file, one by one; the first fault is raised where it is met."""
     parser = Parser()
     parser.feed(octets)
-    events = list(parser.events())
+    yield from parser.events()
     parser.finish()
-    return parser.head, events
+
+
+def read_head(octets):
+    """The head of a whole file, or its fault."""
+    parser = Parser()
+    parser.feed(octets[:13])
+    for _ in parser.events():
+        break
+    if parser.head is None:
+        parser.finish()
+    return parser.head
+
+
+def read_file(octets):
+    """The head and the events of a whole file, or the first fault."""
+    events = list(read_events(octets))
+    return read_head(octets), events
 
 
 def event_octets(head, name, **fields):

@@ -7,7 +7,7 @@ from bisect import bisect_right
 from collections import Counter
 from typing import NamedTuple
 
-from gate_files import START, read_file
+from gate_files import START, read_events, read_head
 from line_model import run_script
 
 BEAT = 160
@@ -195,12 +195,11 @@ def advise(line, share):
 
 def of_journals(player, filers):
     """The course of a line from the octets of its journals."""
-    head, events = read_file(player)
-    filed = [[it[2:] for it in read_file(octets)[1]] for octets in filers]
-    return Timeline(head, [it[2:] for it in events], filed)
+    rows = [((it.name, it.fields) for it in read_events(octets)) for octets in (player, *filers)]
+    return Timeline(read_head(player), rows[0], rows[1:])
 
 
 def of_script(octets):
     """The course of a script's line."""
-    head, events = read_file(octets)
-    return Timeline(head, *run_script(head, events))
+    head = read_head(octets)
+    return Timeline(head, *run_script(head, read_events(octets)))

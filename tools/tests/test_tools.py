@@ -4,7 +4,6 @@ import struct
 import subprocess
 import sys
 import tempfile
-import time
 import unittest
 from pathlib import Path
 
@@ -166,13 +165,13 @@ class WatchLine(InFolder):
             self.keep(f"call.{name}", text[: len(text) // 2])
         words = [sys.executable, TOOLS / "watch_line", "--interval", "0.2", self.room / "call"]
         with subprocess.Popen(words, stdout=subprocess.PIPE, stderr=subprocess.PIPE, text=True) as watch:
-            time.sleep(0.5)
+            first = watch.stdout.readline()
             for name, text in texts.items():
                 with open(self.room / f"call.{name}", "ab") as file:
                     file.write(text[len(text) // 2 :])
             said, errors = watch.communicate(timeout=30)
         self.assertEqual((watch.returncode, errors), (0, ""))
-        heads = [row for row in said.splitlines() if row.startswith(str(self.room))]
+        heads = [row for row in (first + said).splitlines() if row.startswith(str(self.room))]
         self.assertGreater(len(heads), 1)
         self.assertEqual(["ended" in row for row in heads], [False] * (len(heads) - 1) + [True])
 
