@@ -113,14 +113,27 @@ class MendJournal(InFolder):
 
 @unittest.skipUnless(imports("dpkt"), "skipped: dpkt is not there (Debian's python3-dpkt)")
 class PcapToScript(InFolder):
-    def capture(self, rows):
-        """A capture of UDP over IPv4: the time, the port, the octets of each datagram."""
-        out = struct.pack("<IHHiIII", 0xA1B2C3D4, 2, 4, 0, 0, 65535, 101)
+    def capture(self, rows, kind=101, before=b"", is_new=False):
+        """A capture of UDP over IPv4 or IPv6: the time, the port, the octets of each datagram."""
+        out = struct.pack("<IHHiIII", 0xA1B2C3D4, 2, 4, 0, 0, 65535, kind)
         for seconds, port, octets in rows:
             udp = struct.pack(">HHHH", 5000, port, 8 + len(octets), 0) + octets
             ip = struct.pack(">BBHHHBBH4s4s", 0x45, 0, 20 + len(udp), 0, 0, 64, 17, 0, b"\x0a\0\0\1", b"\x0a\0\0\2") + udp
-            out += struct.pack("<IIII", int(seconds), round(seconds % 1 * 1000000), len(ip), len(ip)) + ip
+            if is_new:
+                ip = struct.pack(">IHBB16s16s", 0x60000000, len(udp), 17, 64, bytes(16), bytes(15) + b"\1") + udp
+            whole = before + ip
+            out += struct.pack("<IIII", int(seconds), round(seconds % 1 * 1000000), len(whole), len(whole)) + whole
         return self.keep("call.pcap", out)
+
+    def test_each_link_type_and_both_families(self):
+        links = [(101, b"", b""), (1, bytes(12) + b"\x08\0", bytes(12) + b"\x86\xdd"), (1, bytes(12) + b"\x81\0\0\5\x08\0", bytes(12) + b"\x81\0\0\5\x86\xdd")]
+        links += [(113, bytes(14) + b"\x08\0", bytes(14) + b"\x86\xdd"), (276, b"\x08\0" + bytes(18), b"\x86\xdd" + bytes(18)), (0, b"\2\0\0\0", b"\x1e\0\0\0")]
+        for kind, old, new in links:
+            for before, is_new, address in ((old, False, "10.0.0.2:4000"), (new, True, "[::1]:4000")):
+                ran = tool("pcap_to_script", self.capture([(1.0, 4000, rtp(1))], kind, before, is_new), self.room / "script")
+                self.assertEqual(ran.stdout.splitlines()[:1], [f"filer 0 {address} datagrams 1"], (kind, is_new, ran.stderr))
+        ran = tool("pcap_to_script", self.capture([(1.0, 4000, rtp(1))], 105), self.room / "script")
+        self.assertEqual((ran.returncode, "link type is 105" in ran.stderr), (1, True))
 
     def test_sockets_are_filers_and_moments_are_those_of_the_capture(self):
         path = self.capture([(100.0, 4002, rtp(1)), (100.021, 4000, rtp(2)), (100.03, 53, b"other"), (100.0301, 4000, b"\0" * 20)])
