@@ -57,7 +57,7 @@ for kind, block in re.findall(r"^```(console|sh)\n(.*?)^```", text, re.S | re.M)
             fail(f"{command}\n  the README says\n{wanted}  and it printed\n{said}")
 
 words = lambda it: " ".join(it.split())
-for file, block in re.findall(r"\(`(crates/[^`]*)`\)[^`]*?(?:`ensures`[^`]*?)?\n\n```(?:text|rust)\n(.*?)^```", text, re.S | re.M):
+for file, block in re.findall(r"\(`(crates/[^`]*)`\):\n\n```(?:text|rust)\n(.*?)^```", text, re.S | re.M):
     there = words(open(f"{top}/{file}", encoding="utf-8").read())
     print(f"ok: the piece of {file}") if words(block) in there else fail(f"the piece of {file} is not in that file")
 if shutil.which("rt"):
