@@ -178,11 +178,6 @@ class Parser:
         if not self.ended:
             raise Fault("cut", self.place + len(self._rest))
 
-    @property
-    def cut(self):
-        """Whether octets of an event, or of the head, that is not whole stand at the end."""
-        return len(self._rest) > 0
-
     def _read_head(self):
         rest = self._rest
         if not any(magic[: len(rest)] == rest[:8] for magic in MAGICS):

@@ -35,8 +35,8 @@ class Timeline:
         self.idle = 0
         # By number: the beat at which it was played, counted from 1, and whether it was a frame.
         self.beats, self.frames = {}, {}
-        # Beats at which the player waited, and numbers that it skipped (elastic playout, version 2).
-        self.held, self.skipped = 0, set()
+        # How many beats the player waited, and the numbers that it skipped with their beats (elastic playout, version 2).
+        self.held, self.skipped = 0, {}
         self.filings = []
         self.outcomes = [Counter() for _ in filed]
         # In order of time: at which beat the position changed, and to what.
@@ -56,7 +56,7 @@ class Timeline:
                 beat += 1
                 self.held += 1
             elif name in ("retired frame", "retired erasure"):
-                self.skipped.add(position)
+                self.skipped[position] = beat + 1
                 position += 1
                 self._moves.append((beat + 1, position))
             elif name in ("frame", "erasure"):
@@ -90,8 +90,9 @@ class Timeline:
 
     def due(self, number):
         """The moment at which a number is played, or would be by the clock that goes on."""
-        if number in self.beats:
-            return self.beats[number] * BEAT
+        for known in (self.beats, self.skipped):
+            if number in known:
+                return known[number] * BEAT
         if number < START:
             return (self.idle + 1 - (START - number)) * BEAT
         return (self.last_beat + 1 + number - self.end) * BEAT
@@ -124,7 +125,7 @@ class Timeline:
         return [tuple(it) for it in told]
 
     def stream(self):
-        """The numbers of the stream: from the first that came to the last, as far as the player went, but for those that it skipped."""
+        """The numbers of the stream, from the first that came to the last, as far as the player went, without those that it skipped."""
         came = [it.number for it in self.filings]
         numbers = range(max(min(came), START), min(max(came) + 1, self.end)) if came else ()
         return [it for it in numbers if it not in self.skipped]
