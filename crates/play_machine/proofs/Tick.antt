@@ -73,7 +73,7 @@ module _ (k : Shape) (s : Ring) (rule : RingRule k s) (id : ℕ) (c : Calling) (
   pub here : p ≡ m.position
   here = ap (λ (l : List Call). start + ticks l) (list_is k s rule id c at ∙ ap (λ (q : ℕ). calls_of q rule.history) player) ∙ (ap (λ (q : ℕ). start + q) (player_ticks k.filers rule.history rule.callers) ∙ sym rule.position)
 
-  number : w.number ≡ p
+  pub number : w.number ≡ p
   number =
       let fits = rule.slot i w found in
       let a : ℕ = w.number in let q : ℕ = m.position in

@@ -6,7 +6,7 @@ ghost use Rattle.play_machine.specs.History.{ReplyFits};
 ghost use Rattle.play_machine.specs.Ring.{Has};
 ghost use Rattle.step_table.specs.Packed.{pack_slot, Fits};
 ghost use Rattle.step_table.specs.Kinds.{load};
-ghost use Rattle.slot_ring.specs.Seen.{position_in, Grown, known_after, IsLate, IsSettled};
+ghost use Rattle.slot_ring.specs.Seen.{position_in, Grown, known_after, IsLate, IsSettled, SlotSays};
 ghost use Rattle.slot_ring.specs.Kept.{FiledBy, reply_after};
 
 use crate::kinds::Publishes;
@@ -47,6 +47,7 @@ impl SlotRing {
         ensures call { Grown pass.old (FileCall number frame.now result) pass.new }
         ensures known { pass.new.known ≡ known_after pass.old.known (position_in pass.old) (FileCall number frame.now result) }
         ensures fits { ReplyFits number result }
+        ensures word { SlotSays pass.old number result }
         ensures late { number < pass.old.known.position → IsLate result }
         ensures settled { (f : List ℕ) → Has pass.old.known.pairs number f → IsSettled result }
         ensures counted { (steps.old + 1 ≤ steps.new) × (steps.new ≤ steps.old + 2) }

@@ -118,7 +118,7 @@ publish_goes k s rule keep id c f at filer flying small old new was more =
     let d : Calling = loaded c w f.number f.frame in
     let u : View = caller_view k d in
     let full : w.number ≡ f.number → w.filled ≡ true = λ e. filled_if w.filled refl (λ free. miss (shows ∙ (ap pack_slot (free_is w f e free (flight.1 e free)) ∙ sym was))) in
-    let tells : AfterPublish k c f held r (u, held) = inr ((λ e. miss (e ∙ sym was)), (w, shows, fits, flight.0, full, refl)) in (
+    let tells : AfterPublish k c f held r (u, held) = inr ((λ e. miss (e ∙ sym was)), (w, shows, fits, flight.0, full, refl, tells_of k s rule id c f.number w at there.1)) in (
       u,
       keeps,
       tt,

@@ -78,10 +78,10 @@ MayExchange (base x) k me word old new =
     × (me ≡ (caller_view k c, held)) × (c.who < k.filers) × (c.flight ≡ None) × (x < 2 ^ 32) × (word ≡ base_place k) × (old ≡ 0) × (new ≡ word_of (Some x))
 MayExchange _ k me word old new = ⊥
 
--- a tick by this caller found the number: it spells a slot word, and the seat has that word's cell. What the caller knew to be accepted there is played
+-- a tick by this caller found the number: it spells a slot word of the caller's position, and the seat has that word's cell. What the caller knew to be accepted there is played, and a filled word has a frame in its cell
 abbrev pub AfterTick : Shape → Calling → ℕ → SeatState → Type 0
 AfterTick k c found now = (w : SlotWord) × (y : Kept) × (found ≡ pack_slot w) × Fits w × (now ≡ (caller_view k (ticked c w y), (w.cell, y) ∷ []))
-    × ((f : List ℕ) → Has c.known.pairs (position_of c) f → taken w.filled y ≡ Frame f)
+    × ((f : List ℕ) → Has c.known.pairs (position_of c) f → taken w.filled y ≡ Frame f) × (w.number ≡ position_of c) × (w.filled ≡ true → (f : List ℕ) × (y ≡ Some f))
 
 -- what the word of this number's slot has to do with what the caller knew
 pub record WordTells (k : Shape) (c : Calling) (n : ℕ) (w : SlotWord) : Type 0 where
@@ -99,7 +99,7 @@ abbrev pub AfterPublish : Shape → Calling → Flight → List (ℕ × Kept) �
 AfterPublish k c f held found now =
     ((found ≡ pack_slot (free_word f.number f.cell)) × ((y : Kept) × (now ≡ (caller_view k (published c f.number f.frame f.cell), (f.cell, y) ∷ []))))
     ⊎ ((found ≢ pack_slot (free_word f.number f.cell))
-    × ((w : SlotWord) × (found ≡ pack_slot w) × Fits w × (f.number ≤ w.number) × (w.number ≡ f.number → w.filled ≡ true) × (now ≡ (caller_view k (loaded c w f.number f.frame), held))))
+    × ((w : SlotWord) × (found ≡ pack_slot w) × Fits w × (f.number ≤ w.number) × (w.number ≡ f.number → w.filled ≡ true) × (now ≡ (caller_view k (loaded c w f.number f.frame), held)) × WordTells k c f.number w))
 
 -- a word with nothing held, or with a value of 32 bits
 abbrev pub IsHeldWord : ℕ → Type 0
