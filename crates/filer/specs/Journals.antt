@@ -1,7 +1,7 @@
 -- What a filer journals of a datagram: the calls that said its source and its base, and then one event a frame, or the one other event.
 use Rattle.std.specs.Prelude.{ℕ, suc, ◌^◌, ◌<◌, Bool, true, false, List, [], ◌∷◌, ◌++◌, Option, Some, None}
-use Rattle.play_machine.specs.declared.reply.FileReply.{FileReply}
-use Rattle.play_machine.specs.History.{ReplyFits}
+use Rattle.playout.specs.declared.reply.FileReply.{FileReply}
+use Rattle.playout.specs.History.{ReplyFits}
 use Rattle.recorder.specs.declared.events.Asked2.{Asked2}
 use Rattle.recorder.specs.declared.events.FilerEvent.{FilerEvent}
 use Rattle.recorder.specs.declared.events.FilerEvent.TheVariants as event

@@ -1,13 +1,13 @@
 // A packet with frames becomes calls.
 ghost use Rattle.std.specs.Prelude.{◌≡◌, ◌≤◌, ◌<◌, ◌+◌, ◌-◌, ◌/◌, ◌^◌, true, length};
-ghost use Rattle.play_machine.specs.History.{Chained};
+ghost use Rattle.playout.specs.History.{Chained};
 ghost use Rattle.recorder.specs.Tallies.{is_accepted};
 ghost use Rattle.filer.specs.Journals.{RepliesFit};
 ghost use Rattle.filer.specs.Takes.{asked, held_source, clock_now, source_calls, base_calls, file_calls, frames_of, any_accepted, told};
 
 use crate::outcome::Asked;
 use crate::replies::Replies;
-use play_machine::{FileReply, FilerSide};
+use playout::{FileReply, FilerSide};
 use rtp_codec::RtpView;
 use unwrap_ts::Unwrapper;
 

@@ -1,7 +1,7 @@
 use super::tests::{Came, came_of};
 use super::*;
 use gate_io::{LinkEntry, MemoryLink, MemorySink, Octets};
-use play_machine::{MapFiler, MapLine};
+use playout::{MapFiler, MapLine};
 use rtcp_stats::RtcpFault;
 use std::alloc::Global;
 use std::sync::Wait;

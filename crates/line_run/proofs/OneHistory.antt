@@ -2,9 +2,9 @@
 use Rattle.std.proofs.Common.{◌≡◌, ℕ, suc, zero, ◌+◌, ◌^◌, ◌<◌, ◌≤◌, List, [], ◌∷◌, length, map, Option, Some, refl, sym, ap, ◌∙◌, subst, arith}
 use mathlib.Core.Option.{some, some-ne-none, some-injective}
 use lib.ListN.{get_elem?}
-use Rattle.play_machine.specs.declared.call.Call.{Call}
-use Rattle.play_machine.specs.Machine.{opening_machine}
-use Rattle.play_machine.specs.History.{AllMayCall, IsLegal, calls_of}
+use Rattle.playout.specs.declared.call.Call.{Call}
+use Rattle.playout.specs.Machine.{opening_machine}
+use Rattle.playout.specs.History.{AllMayCall, IsLegal, calls_of}
 use Rattle.step_table.specs.Packed.{Where}
 use Rattle.slot_ring.specs.Seen.{PassView}
 use Rattle.slot_ring.specs.Remains.{Ended, LeftView}

@@ -1,6 +1,6 @@
 use super::*;
 use gate_io::{MemoryClock, MemoryLink, MemorySink, MemorySource};
-use play_machine::{MapLine, MapPlayer};
+use playout::{MapLine, MapPlayer};
 use std::alloc::Global;
 use std::test::Fail;
 

@@ -8,8 +8,8 @@ use Rattle.std.proofs.lemmas.Bool.Decides.{nat_tests}
 use Rattle.std.proofs.lemmas.List.{take_at, drop_at}
 use Rattle.byteorder.specs.Endian.{big_bytes, big_number}
 use Rattle.byteorder.specs.Numbers.{big_number-reads_back}
-use Rattle.play_machine.specs.declared.reply.FileReply.{FileReply}
-use Rattle.play_machine.specs.declared.reply.FileReply.TheVariants.{Accepted, Duplicate, Late, Beyond}
+use Rattle.playout.specs.declared.reply.FileReply.{FileReply}
+use Rattle.playout.specs.declared.reply.FileReply.TheVariants.{Accepted, Duplicate, Late, Beyond}
 use Rattle.recorder.specs.declared.fault.RecordFault.{RecordFault}
 use Rattle.recorder.specs.declared.events.FilerEvent.{FilerEvent}
 use Rattle.recorder.specs.declared.events.FilerEvent.TheVariants.{Source, Base, File, Refused, Rtcp, Stranger, Empty}

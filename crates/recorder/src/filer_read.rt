@@ -12,7 +12,7 @@ use crate::fault::{RecordEnd, RecordFault};
 use crate::filer_fields::{ahead_of, filed_of, pair_of, refused_of};
 use crate::read::read_kind;
 use gate_io::{Failed, Source, fill};
-use play_machine::FileReply;
+use playout::FileReply;
 
 // How many octets follow a kind, where it is one of the file's.
 fn width_of(kind: u8) -> Option<usize>

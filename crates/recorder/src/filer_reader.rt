@@ -12,7 +12,7 @@ use crate::filer_head::{FilerHead, read_filer_head};
 use crate::filer_read::read_filer_event;
 use crate::reading::{Reading, answer_again};
 use gate_io::Source;
-use play_machine::FileReply;
+use playout::FileReply;
 use std::marker::Model;
 
 /// Reads a filer's journal from any source, event by event. It keeps where it is and how it ended.

@@ -9,7 +9,7 @@ use crate::test_files::{
 use frame_codec::Item;
 use gate_base::OutOfMemory;
 use gate_io::{MemorySink, MemorySource};
-use play_machine::FileReply;
+use playout::FileReply;
 use std::alloc::Global;
 use std::test::Fail;
 

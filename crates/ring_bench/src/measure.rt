@@ -5,7 +5,7 @@ ghost use denote.Param.Send.{IsSend};
 
 use crate::caller::{Filer, Player, SLOTS, START, bounded, following};
 use frame_codec::Frame33;
-use play_machine::FileReply;
+use playout::FileReply;
 use std::sync::atomic::{AtomicU64, Ordering};
 use std::thread;
 use std::thread::{Threads, join_mut};

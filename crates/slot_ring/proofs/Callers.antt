@@ -2,22 +2,22 @@
 use Rattle.std.proofs.Common.{◌≡◌, ℕ, ◌+◌, ◌%◌, ◌^◌, ◌<◌, ◌≤◌, List, [], ◌∷◌, ◌++◌, Option, Some, None, is_some, Bool, refl, sym, ap, ◌∙◌, subst, arith}
 use Rattle.frame_codec.specs.declared.item.Item.{Item}
 use Rattle.frame_codec.specs.declared.item.Item.TheVariants.{Frame}
-use Rattle.play_machine.specs.declared.call.Call.{Call}
-use Rattle.play_machine.specs.declared.call.Call.TheVariants.{SourceCall, BaseCall, PeekCall, TickCall}
-use Rattle.play_machine.specs.declared.words.SlotWord.{SlotWord}
-use Rattle.play_machine.specs.declared.views.Shape.{Shape}
-use Rattle.play_machine.specs.declared.views.Known.{Known}
-use Rattle.play_machine.specs.declared.views.Calling.{Calling}
-use Rattle.play_machine.specs.declared.views.Role.{Role}
-use Rattle.play_machine.specs.declared.views.Role.TheVariants.{Caller}
-use Rattle.play_machine.specs.declared.views.View.{View}
-use Rattle.play_machine.specs.Machine.{start, held_or}
-use Rattle.play_machine.specs.History.{ticks}
-use Rattle.play_machine.specs.Ring.{Has, slot_count, word_of}
-use Rattle.play_machine.specs.Core.{held_in}
-use Rattle.play_machine.specs.Steps.{caller_view, position_of, ticked, taken, free_word, sourced, based, peeked, told_by, merged}
-use Rattle.play_machine.proofs.Histories.{ticks-snoc}
-use Rattle.play_machine.proofs.Core.{held_is}
+use Rattle.playout.specs.declared.call.Call.{Call}
+use Rattle.playout.specs.declared.call.Call.TheVariants.{SourceCall, BaseCall, PeekCall, TickCall}
+use Rattle.ring_core.specs.declared.words.SlotWord.{SlotWord}
+use Rattle.ring_core.specs.declared.views.Shape.{Shape}
+use Rattle.ring_core.specs.declared.views.Known.{Known}
+use Rattle.ring_core.specs.declared.views.Calling.{Calling}
+use Rattle.ring_core.specs.declared.views.Role.{Role}
+use Rattle.ring_core.specs.declared.views.Role.TheVariants.{Caller}
+use Rattle.ring_core.specs.declared.views.View.{View}
+use Rattle.playout.specs.Machine.{start, held_or}
+use Rattle.playout.specs.History.{ticks}
+use Rattle.ring_core.specs.Ring.{Has, slot_count, word_of}
+use Rattle.ring_core.specs.Core.{held_in}
+use Rattle.ring_core.specs.Steps.{caller_view, position_of, ticked, taken, free_word, sourced, based, peeked, told_by, merged}
+use Rattle.playout.proofs.HistoryLaws.{ticks-snoc}
+use Rattle.ring_core.proofs.Core.{held_is}
 use Rattle.step_table.specs.Packed.{Kept, SeatState, pack_slot, Fits}
 use Rattle.step_table.specs.Kinds.{tick, peek, source, base, learn, told, both_of, IsHeldWord, AfterTick, AfterPeek, AfterSource, AfterBase, MaySwap, MayLoad, MayExchange, MayJoin, source_place, base_place}
 use Rattle.slot_ring.specs.Seen.{who_in, list_in, known_in, TickSays, PeekSays, HeldSays}

@@ -2,18 +2,18 @@
 use Rattle.std.proofs.Common.{◌≡◌, inl, inr, ℕ, ◌+◌, ◌%◌, ◌^◌, ◌<◌, ◌≤◌, eqb, cond, List, [], ◌∷◌, ◌++◌, Some, None, Bool, true, false, refl, sym, ap, ◌∙◌, subst, arith}
 use Rattle.std.specs.Prelude.{nat_lt}
 use Rattle.std.proofs.lemmas.Bool.Decides.{nat_tests}
-use Rattle.play_machine.specs.declared.call.Call.TheVariants.{FileCall}
-use Rattle.play_machine.specs.declared.reply.FileReply.{FileReply}
-use Rattle.play_machine.specs.declared.reply.FileReply.TheVariants.{Accepted, Duplicate, Late, Beyond}
-use Rattle.play_machine.specs.declared.words.SlotWord.{SlotWord}
-use Rattle.play_machine.specs.declared.views.Shape.{Shape}
-use Rattle.play_machine.specs.declared.views.Flight.{Flight}
-use Rattle.play_machine.specs.declared.views.Calling.{Calling}
-use Rattle.play_machine.specs.declared.views.View.{View}
-use Rattle.play_machine.specs.Machine.{start}
-use Rattle.play_machine.specs.History.{ReplyFits}
-use Rattle.play_machine.specs.Ring.{Has}
-use Rattle.play_machine.specs.Steps.{caller_view, position_of, free_word, full_word, in_flight, replied, late, loaded, loaded_by, published}
+use Rattle.playout.specs.declared.call.Call.TheVariants.{FileCall}
+use Rattle.playout.specs.declared.reply.FileReply.{FileReply}
+use Rattle.playout.specs.declared.reply.FileReply.TheVariants.{Accepted, Duplicate, Late, Beyond}
+use Rattle.ring_core.specs.declared.words.SlotWord.{SlotWord}
+use Rattle.ring_core.specs.declared.views.Shape.{Shape}
+use Rattle.ring_core.specs.declared.views.Flight.{Flight}
+use Rattle.ring_core.specs.declared.views.Calling.{Calling}
+use Rattle.ring_core.specs.declared.views.View.{View}
+use Rattle.playout.specs.Machine.{start}
+use Rattle.playout.specs.History.{ReplyFits}
+use Rattle.ring_core.specs.Ring.{Has}
+use Rattle.ring_core.specs.Steps.{caller_view, position_of, free_word, full_word, in_flight, replied, late, loaded, loaded_by, published}
 use Rattle.step_table.specs.Packed.{Kept, SeatState, pack_slot, Fits}
 use Rattle.step_table.specs.Kinds.{load, publish, told, WordTells, AfterLoad, AfterPublish, MayExchange}
 use Rattle.slot_ring.specs.Seen.{known_after, IsLate, IsSettled, IsOfSlot, IsReplyOf}

@@ -1,20 +1,20 @@
 -- How what contracts see of a pass follows from its seat.
 use Rattle.std.proofs.Common.{◌≡◌, ℕ, ◌+◌, ◌<◌, ◌≤◌, List, [], ◌∷◌, ◌++◌, None, refl, sym, ap, ◌∙◌, subst}
 use Rattle.atomic_table.specs.Seated.{TableId}
-use Rattle.play_machine.specs.declared.call.Call.{Call}
-use Rattle.play_machine.specs.declared.call.Call.TheVariants.{FileCall}
-use Rattle.play_machine.specs.declared.reply.FileReply.{FileReply}
-use Rattle.play_machine.specs.declared.words.SlotWord.{SlotWord}
-use Rattle.play_machine.specs.declared.views.Shape.{Shape}
-use Rattle.play_machine.specs.declared.views.Known.{Known}
-use Rattle.play_machine.specs.declared.views.Calling.{Calling}
-use Rattle.play_machine.specs.declared.views.Role.{Role}
-use Rattle.play_machine.specs.declared.views.Role.TheVariants.{Caller}
-use Rattle.play_machine.specs.declared.views.View.{View}
-use Rattle.play_machine.specs.Machine.{start}
-use Rattle.play_machine.specs.History.{ticks, ReplyFits}
-use Rattle.play_machine.specs.Ring.{Has}
-use Rattle.play_machine.specs.Steps.{caller_view, position_of}
+use Rattle.playout.specs.declared.call.Call.{Call}
+use Rattle.playout.specs.declared.call.Call.TheVariants.{FileCall}
+use Rattle.playout.specs.declared.reply.FileReply.{FileReply}
+use Rattle.ring_core.specs.declared.words.SlotWord.{SlotWord}
+use Rattle.ring_core.specs.declared.views.Shape.{Shape}
+use Rattle.ring_core.specs.declared.views.Known.{Known}
+use Rattle.ring_core.specs.declared.views.Calling.{Calling}
+use Rattle.ring_core.specs.declared.views.Role.{Role}
+use Rattle.ring_core.specs.declared.views.Role.TheVariants.{Caller}
+use Rattle.ring_core.specs.declared.views.View.{View}
+use Rattle.playout.specs.Machine.{start}
+use Rattle.playout.specs.History.{ticks, ReplyFits}
+use Rattle.ring_core.specs.Ring.{Has}
+use Rattle.ring_core.specs.Steps.{caller_view, position_of}
 use Rattle.step_table.specs.Packed.{Kept, SeatState}
 use Rattle.slot_ring.specs.Seen.{PassView, pass_view, position_in, who_in, list_in, known_in, Grown, known_after, IsLate, IsSettled, IsOfSlot, IsReplyOf, SlotSays}
 use Rattle.slot_ring.specs.Kept.{IsFilers, FiledBy}

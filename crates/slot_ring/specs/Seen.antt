@@ -1,20 +1,20 @@
 -- What contracts see of passes, blanks, gathers and notes.
 use Rattle.std.specs.Prelude.{◌≡◌, ℕ, ◌+◌, ◌%◌, ◌^◌, ◌<◌, ◌≤◌, List, [], ◌∷◌, ◌++◌, Option, Some, None, IsSome, Bool, true, false, max, replicate}
 use Rattle.frame_codec.specs.declared.item.Item.{Item}
-use Rattle.play_machine.specs.declared.call.Call.{Call}
-use Rattle.play_machine.specs.declared.call.Call.TheVariants.{FileCall, SourceCall, BaseCall, PeekCall, TickCall}
-use Rattle.play_machine.specs.declared.reply.FileReply.{FileReply}
-use Rattle.play_machine.specs.declared.reply.FileReply.TheVariants.{Accepted, Duplicate, Late, Beyond}
-use Rattle.play_machine.specs.declared.views.Known.{Known}
-use Rattle.play_machine.specs.declared.views.Role.{Role}
-use Rattle.play_machine.specs.declared.views.Role.TheVariants.{Pool, Caller, Departed, Note, Spent}
-use Rattle.play_machine.specs.Machine.{start, held_or}
-use Rattle.play_machine.specs.History.{ticks}
-use Rattle.play_machine.specs.declared.words.SlotWord.{SlotWord}
-use Rattle.play_machine.specs.declared.views.Shape.{Shape}
-use Rattle.play_machine.specs.Ring.{slot_count, word_of}
-use Rattle.play_machine.specs.Core.{held_in}
-use Rattle.play_machine.specs.Steps.{taken, with_pair, at_position, with_source, with_base, either_known}
+use Rattle.playout.specs.declared.call.Call.{Call}
+use Rattle.playout.specs.declared.call.Call.TheVariants.{FileCall, SourceCall, BaseCall, PeekCall, TickCall}
+use Rattle.playout.specs.declared.reply.FileReply.{FileReply}
+use Rattle.playout.specs.declared.reply.FileReply.TheVariants.{Accepted, Duplicate, Late, Beyond}
+use Rattle.ring_core.specs.declared.views.Known.{Known}
+use Rattle.ring_core.specs.declared.views.Role.{Role}
+use Rattle.ring_core.specs.declared.views.Role.TheVariants.{Pool, Caller, Departed, Note, Spent}
+use Rattle.playout.specs.Machine.{start, held_or}
+use Rattle.playout.specs.History.{ticks}
+use Rattle.ring_core.specs.declared.words.SlotWord.{SlotWord}
+use Rattle.ring_core.specs.declared.views.Shape.{Shape}
+use Rattle.ring_core.specs.Ring.{slot_count, word_of}
+use Rattle.ring_core.specs.Core.{held_in}
+use Rattle.ring_core.specs.Steps.{taken, with_pair, at_position, with_source, with_base, either_known}
 use Rattle.step_table.specs.Packed.{Where, Kept, Fits}
 use Rattle.step_table.specs.Kinds.{IsHeldWord}
 

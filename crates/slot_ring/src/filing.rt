@@ -1,9 +1,9 @@
 // Filing a frame.
 ghost use Rattle.std.specs.Prelude.{◌≡◌, ℕ, ◌+◌, ◌<◌, ◌≤◌, ◌^◌, List};
-ghost use Rattle.play_machine.specs.declared.call.Call.TheVariants.{FileCall};
-ghost use Rattle.play_machine.specs.declared.words.SlotWord.{SlotWord};
-ghost use Rattle.play_machine.specs.History.{ReplyFits};
-ghost use Rattle.play_machine.specs.Ring.{Has};
+ghost use Rattle.playout.specs.declared.call.Call.TheVariants.{FileCall};
+ghost use Rattle.ring_core.specs.declared.words.SlotWord.{SlotWord};
+ghost use Rattle.playout.specs.History.{ReplyFits};
+ghost use Rattle.ring_core.specs.Ring.{Has};
 ghost use Rattle.step_table.specs.Packed.{pack_slot, Fits};
 ghost use Rattle.step_table.specs.Kinds.{load};
 ghost use Rattle.slot_ring.specs.Seen.{position_in, Grown, known_after, IsLate, IsSettled, SlotSays};
@@ -14,7 +14,7 @@ use crate::pass::FilerPass;
 use crate::ring::SlotRing;
 use crate::words::{cell_of, full, is_filled, number_of};
 use frame_codec::Frame33;
-use play_machine::FileReply;
+use playout::FileReply;
 use std::marker::Brand;
 use std::sync::ledger::Ledger;
 use step_table::{Kind, Steps};

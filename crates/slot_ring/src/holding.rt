@@ -1,6 +1,6 @@
 // The held source and base.
 ghost use Rattle.std.specs.Prelude.{◌≡◌, ℕ, ◌+◌, Some};
-ghost use Rattle.play_machine.specs.declared.call.Call.TheVariants.{SourceCall, BaseCall};
+ghost use Rattle.playout.specs.declared.call.Call.TheVariants.{SourceCall, BaseCall};
 ghost use Rattle.step_table.specs.Kinds.{source, base};
 ghost use Rattle.slot_ring.specs.Seen.{position_in, Grown, known_after, HeldSays};
 

@@ -2,9 +2,9 @@
 ghost use Rattle.std.specs.Prelude.{◌≡◌, ◌≢◌, ℕ, ◌+◌, ◌<◌, ◌^◌, List, Some};
 ghost use Rattle.frame_codec.specs.declared.item.Item.{Item};
 ghost use Rattle.frame_codec.specs.declared.item.Item.TheVariants.{Frame, Idle};
-ghost use Rattle.play_machine.specs.declared.call.Call.TheVariants.{TickCall, PeekCall};
-ghost use Rattle.play_machine.specs.Ring.{Has};
-ghost use Rattle.play_machine.specs.Steps.{taken};
+ghost use Rattle.playout.specs.declared.call.Call.TheVariants.{TickCall, PeekCall};
+ghost use Rattle.ring_core.specs.Ring.{Has};
+ghost use Rattle.ring_core.specs.Steps.{taken};
 ghost use Rattle.slot_ring.specs.Seen.{position_in, Grown, known_after, TickSays, PeekSays};
 
 use crate::kinds::{Peeks, Ticks};

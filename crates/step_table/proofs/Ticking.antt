@@ -7,21 +7,21 @@ use lib.ListN.{get_elem?}
 use lib.Seq.{map-set}
 use Rattle.atomic_table.specs.Table.{State, Act, takes, gives, chain, Allows, Valid, stepped, carried_after}
 use Rattle.atomic_table.proofs.Lists.{set_else, at_map}
-use Rattle.play_machine.specs.declared.views.Shape.{Shape}
-use Rattle.play_machine.specs.declared.views.Calling.{Calling}
-use Rattle.play_machine.specs.declared.views.Role.{Role}
-use Rattle.play_machine.specs.declared.views.Role.TheVariants.{Caller}
-use Rattle.play_machine.specs.declared.views.View.{View}
-use Rattle.play_machine.specs.Ring.{Ring, slot_count, RingRule}
-use Rattle.play_machine.specs.declared.words.SlotWord.{SlotWord}
-use Rattle.play_machine.specs.declared.words.Cell.{Cell}
-use Rattle.play_machine.specs.declared.words.Cell.TheVariants.{AtHome, OutWith}
-use Rattle.play_machine.specs.Steps.{caller_view, position_of, ticked, free_word, tick_at}
-use Rattle.play_machine.proofs.Kept.{at_exists, slots_positive}
-use Rattle.play_machine.proofs.Cells as cells
-use Rattle.play_machine.proofs.Seats.{at_one}
-use Rattle.play_machine.proofs.Tick.{number}
-use Rattle.play_machine.proofs.AllSteps.{all_steps, all_fresh}
+use Rattle.ring_core.specs.declared.views.Shape.{Shape}
+use Rattle.ring_core.specs.declared.views.Calling.{Calling}
+use Rattle.ring_core.specs.declared.views.Role.{Role}
+use Rattle.ring_core.specs.declared.views.Role.TheVariants.{Caller}
+use Rattle.ring_core.specs.declared.views.View.{View}
+use Rattle.ring_core.specs.Ring.{Ring, slot_count, RingRule}
+use Rattle.ring_core.specs.declared.words.SlotWord.{SlotWord}
+use Rattle.ring_core.specs.declared.words.Cell.{Cell}
+use Rattle.ring_core.specs.declared.words.Cell.TheVariants.{AtHome, OutWith}
+use Rattle.ring_core.specs.Steps.{caller_view, position_of, ticked, free_word, tick_at}
+use Rattle.ring_core.proofs.Kept.{at_exists, slots_positive}
+use Rattle.ring_core.proofs.Cells as cells
+use Rattle.ring_core.proofs.Seats.{at_one}
+use Rattle.ring_core.proofs.Tick.{number}
+use Rattle.ring_core.proofs.AllSteps.{all_steps, all_fresh}
 use Rattle.step_table.specs.Packed.{Kept, SeatState, pack_slot, pack_berth, words_of, home_of, Holds, HeldFit}
 use Rattle.step_table.specs.Kinds.{tick, MaySwap, AfterTick, told}
 use Rattle.step_table.proofs.Spelling.{index_front, set_front, slot_value, slot_small}

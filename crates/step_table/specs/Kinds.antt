@@ -1,22 +1,22 @@
 -- The kinds of step on the table: where each may be made, and what it tells its caller.
 use Rattle.std.specs.Prelude.{◌≡◌, ◌≢◌, ◌⊎◌, ℕ, ◌+◌, ◌%◌, ◌<◌, ◌≤◌, ◌^◌, List, [], ◌∷◌, slice_get, Option, Some, None, Result, Ok, Err, true}
 use Rattle.frame_codec.specs.declared.item.Item.TheVariants.{Frame}
-use Rattle.play_machine.specs.declared.call.Call.{Call}
-use Rattle.play_machine.specs.declared.views.Shape.{Shape}
-use Rattle.play_machine.specs.declared.views.Known.{Known}
-use Rattle.play_machine.specs.declared.views.Flight.{Flight}
-use Rattle.play_machine.specs.declared.views.Pooling.{Pooling}
-use Rattle.play_machine.specs.declared.views.Calling.{Calling}
-use Rattle.play_machine.specs.declared.views.Departing.{Departing}
-use Rattle.play_machine.specs.declared.views.Role.{Role}
-use Rattle.play_machine.specs.declared.views.Role.TheVariants.{Pool, Caller, Departed, Note, Spent}
-use Rattle.play_machine.specs.declared.views.View.{View}
-use Rattle.play_machine.specs.declared.words.SlotWord.{SlotWord}
-use Rattle.play_machine.specs.declared.words.Berth.TheVariants.{Fresh, Out, Home}
-use Rattle.play_machine.specs.Machine.{start, held_or}
-use Rattle.play_machine.specs.Ring.{Has, slot_count, word_of}
-use Rattle.play_machine.specs.Steps.{caller_view, position_of, ticked, taken, free_word, full_word, loaded, published, pool_view, without, only, newcomer, told_by, note_view, departed_view, gone_view, with_list, sourced, based, peeked}
-use Rattle.play_machine.specs.Core.{held_in}
+use Rattle.playout.specs.declared.call.Call.{Call}
+use Rattle.ring_core.specs.declared.views.Shape.{Shape}
+use Rattle.ring_core.specs.declared.views.Known.{Known}
+use Rattle.ring_core.specs.declared.views.Flight.{Flight}
+use Rattle.ring_core.specs.declared.views.Pooling.{Pooling}
+use Rattle.ring_core.specs.declared.views.Calling.{Calling}
+use Rattle.ring_core.specs.declared.views.Departing.{Departing}
+use Rattle.ring_core.specs.declared.views.Role.{Role}
+use Rattle.ring_core.specs.declared.views.Role.TheVariants.{Pool, Caller, Departed, Note, Spent}
+use Rattle.ring_core.specs.declared.views.View.{View}
+use Rattle.ring_core.specs.declared.words.SlotWord.{SlotWord}
+use Rattle.ring_core.specs.declared.words.Berth.TheVariants.{Fresh, Out, Home}
+use Rattle.playout.specs.Machine.{start, held_or}
+use Rattle.ring_core.specs.Ring.{Has, slot_count, word_of}
+use Rattle.ring_core.specs.Steps.{caller_view, position_of, ticked, taken, free_word, full_word, loaded, published, pool_view, without, only, newcomer, told_by, note_view, departed_view, gone_view, with_list, sourced, based, peeked}
+use Rattle.ring_core.specs.Core.{held_in}
 use Rattle.step_table.specs.Packed.{Kept, SeatState, Fits, pack_slot, pack_berth}
 
 pub data StepKind : Type 0 where

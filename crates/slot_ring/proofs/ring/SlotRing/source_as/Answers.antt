@@ -1,7 +1,7 @@
 use Rattle.std.proofs.Common.{◌≡◌, ℕ, Some, subst}
-use Rattle.play_machine.specs.declared.call.Call.TheVariants.{SourceCall}
-use Rattle.play_machine.specs.Machine.{held_or}
-use Rattle.play_machine.specs.Core.{held_in}
+use Rattle.playout.specs.declared.call.Call.TheVariants.{SourceCall}
+use Rattle.playout.specs.Machine.{held_or}
+use Rattle.ring_core.specs.Core.{held_in}
 use Rattle.step_table.specs.Kinds.{StepKind, told, IsHeldWord, word_read}
 use Rattle.slot_ring.specs.Seen.{PassView, HeldSays}
 use Rattle.slot_ring.proofs.Grows.{grown, knows}

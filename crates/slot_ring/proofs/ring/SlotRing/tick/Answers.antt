@@ -1,5 +1,5 @@
 use Rattle.std.proofs.Common.{◌≡◌, ◌∙◌, ◌∷◌, [], ◌++◌, ℕ, ap, subst}
-use Rattle.play_machine.specs.declared.call.Call.TheVariants.{TickCall}
+use Rattle.playout.specs.declared.call.Call.TheVariants.{TickCall}
 use Rattle.slot_ring.specs.Seen.{PassView, position_in, TickSays}
 use Rattle.slot_ring.proofs.Callers.{still_players, after_tick, position_grows}
 use Rattle.slot_ring.proofs.ring.SlotRing.tick.Goals as goal
