@@ -52,6 +52,7 @@ pub fn file_frames<S: FilerSide>(side: &mut S, view: &RtpView<'_>, first: u64) -
     requires { first < 2 ^ 34 }
     ensures calls { Chained S.did side.old (file_calls first (frames_of view.now.payload) result.0) side.new }
     ensures all { length result.0 ≡ length view.now.payload / 33 }
+    ensures few { length result.0 ≤ 10 }
     ensures accepted { result.1 ≡ any_accepted result.0 }
     ensures fits { RepliesFit first result.0 }
     ensures low { result.1 ≡ true → 2 ^ 32 - 16 ≤ first }
