@@ -10,9 +10,9 @@ AppendsPart old new bs = (k : ℕ) × Appends old new (take k bs)
 abbrev pub Gives : {T E : Type 0} → Option (List ℕ) → Option (List ℕ) → Result T E → List ℕ → Type 0
 Gives old new result bs = MatchResult result (λ _. Appends old new bs) (λ _. AppendsPart old new bs)
 
--- some known octets were taken from the front
-abbrev pub ConsumesSome : Option (List ℕ) → Option (List ℕ) → Type 0
-ConsumesSome old new = (bs : List ℕ) × Consumes old new bs
+-- fewer than n known octets were taken from the front
+abbrev pub ConsumesFewer : ℕ → Option (List ℕ) → Option (List ℕ) → Type 0
+ConsumesFewer n old new = (bs : List ℕ) × (length bs < n) × Consumes old new bs
 
 -- the first n octets of the piece were taken from the front, fewer than all only where nothing is left
 abbrev pub Fills : {E : Type 0} → Option (List ℕ) → Option (List ℕ) → Result ℕ E → List ℕ → Type 0

@@ -1,9 +1,9 @@
 -- Several takes or gives, one after the other, are one.
 use Rattle.std.proofs.Common.{◌≡◌, ℕ, zero, suc, ◌+◌, List, [], ◌∷◌, ◌++◌, length, take, Option, Result, Ok, Err, refl, sym, ap, subst}
-use Rattle.std.specs.Io.KnownBytes.{Appends, Consumes}
-use Rattle.std.proofs.KnownBytes.{Appends-trans, Consumes-trans}
+use Rattle.std.specs.Io.KnownBytes.{Appends}
+use Rattle.std.proofs.KnownBytes.{Appends-trans}
 use Rattle.std.proofs.Math.Seq.{take-append-add, take-length}
-use Rattle.gate_io.specs.Flow.{AppendsPart, Gives, ConsumesSome}
+use Rattle.gate_io.specs.Flow.{AppendsPart, Gives}
 
 -- a front of what was to be given is a front of more
 pub AppendsPart-longer : (a b : Option (List ℕ)) (bs cs : List ℕ) → AppendsPart a b bs → AppendsPart a b (bs ++ cs)
@@ -26,7 +26,3 @@ AppendsPart-whole a b bs p = (length bs, subst (Appends a b) (sym (take-length b
 pub Gives-after : {T E : Type 0} (a b c : Option (List ℕ)) (result : Result T E) (bs cs : List ℕ) → Appends a b bs → Gives b c result cs → Gives a c result (bs ++ cs)
 Gives-after a b c (Ok x) bs cs p q = Appends-trans a b c bs cs p q
 Gives-after a b c (Err e) bs cs p q = AppendsPart-after a b c bs cs p q
-
--- some octets behind those that were taken
-pub ConsumesSome-after : (a b c : Option (List ℕ)) (bs : List ℕ) → Consumes a b bs → ConsumesSome b c → ConsumesSome a c
-ConsumesSome-after a b c bs p q = (bs ++ q.0, Consumes-trans a b c bs q.0 p q.1)
