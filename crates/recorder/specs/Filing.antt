@@ -55,6 +55,10 @@ filer_event_text Rtcp = 39 ∷ []
 filer_event_text (Stranger ssrc held) = 40 ∷ (big_bytes 4 ssrc ++ big_bytes 4 held)
 filer_event_text Empty = 41 ∷ []
 
+-- the most octets of an event: a number, a frame and the number that a reply tells, behind the kind
+abbrev pub longest_filed : ℕ
+longest_filed = 50
+
 -- ---- ranges
 
 -- the code of a refusal: of an RTP packet 1 to 10, of RTCP 17 to 22

@@ -21,6 +21,10 @@ play_event_text (Base base) = 17 ∷ big_bytes 4 base
 play_event_text Erasure = 18 ∷ []
 play_event_text (Frame frame) = 19 ∷ frame
 
+-- the most octets of an event: a frame behind its kind
+abbrev pub longest_play : ℕ
+longest_play = 34
+
 -- the octets of what a reader answers: an event, or none at the end mark
 abbrev pub play_answer_text : Option PlayEvent → List ℕ
 play_answer_text = answer_by play_event_text

@@ -3,7 +3,7 @@ use Rattle.recorder.specs.Heads.{head_text, play_magic}
 use Rattle.recorder.specs.Journals.{opening_behind}
 use Rattle.recorder.specs.Play.{AllPlayFit, play_event_text}
 use Rattle.recorder.proofs.JournalSofar.{Sofar}
-use Rattle.recorder.proofs.player_journal.PlayerJournal.read.Given as goal
+use Rattle.recorder.proofs.player_journal.PlayerJournal.read_whole.Given as goal
 
 abbrev pub invariant-events : goal.invariant-events
 invariant-events g l = record {

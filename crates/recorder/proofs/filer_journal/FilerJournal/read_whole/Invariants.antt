@@ -2,7 +2,7 @@ use Rattle.std.proofs.Common.{◌≡◌, ◌≤◌, ◌-◌, Some, None}
 use Rattle.std.specs.List.{AllByRecursion}
 use Rattle.recorder.specs.Filing.{FilerFits, filer_event_text, filer_head_text}
 use Rattle.recorder.proofs.JournalSofar.{Sofar}
-use Rattle.recorder.proofs.filer_journal.FilerJournal.read.Given as goal
+use Rattle.recorder.proofs.filer_journal.FilerJournal.read_whole.Given as goal
 
 abbrev pub invariant-events : goal.invariant-events
 invariant-events g l = record {
