@@ -1,7 +1,7 @@
 -- Speech that is read in pieces of 20 ms.
 use Rattle.std.specs.Prelude.{ℕ, ◌≡◌, ◌-◌, ◌<◌, ◌≤◌, List, [], ◌∷◌, ◌++◌, length, replicate, ℤ, Option, Some, None, Result, Ok, Err}
 use Rattle.std.specs.Io.KnownBytes.{Consumes, IsAtEnd}
-use Rattle.gate_io.specs.Flow.{ConsumesSome}
+use Rattle.gate_io.specs.Flow.{ConsumesFewer}
 use Rattle.substitution.specs.Heard.{sample_octets}
 
 -- the octets of a piece: 320, where fewer came zeros behind them
@@ -20,7 +20,7 @@ pub record IsPiece (old new : Option (List ℕ)) (octets : List ℕ) (samples : 
 abbrev pub TakesPiece : {E : Type 0} → Option (List ℕ) → Option (List ℕ) → Result (Option (List ℤ)) E → Type 0
 TakesPiece old new (Ok (Some samples)) = (octets : List ℕ) × IsPiece old new octets samples
 TakesPiece old new (Ok None) = Consumes old new [] × IsAtEnd new
-TakesPiece old new (Err e) = ConsumesSome old new
+TakesPiece old new (Err e) = ConsumesFewer 320 old new
 
 -- the pieces are cut off the octets one after the other, fewer than 320 octets only where nothing follows, and so much is left
 abbrev pub CutsOff : List ℕ → List (List ℕ) → List ℕ → Type 0

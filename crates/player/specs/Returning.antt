@@ -1,7 +1,7 @@
 -- The return stream: speech of the microphone, coded and sent in packets.
 use Rattle.std.specs.Prelude.{ℕ, ◌≡◌, ◌⊎◌, ◌+◌, ◌*◌, ◌%◌, ◌^◌, ◌<◌, List, [], ◌∷◌, ◌++◌, length, ℤ, Bool, true, false, Option, get_or, flat_map}
 use Rattle.std.specs.Io.KnownBytes.{Consumes, IsAtEnd}
-use Rattle.gate_io.specs.Flow.{ConsumesSome}
+use Rattle.gate_io.specs.Flow.{ConsumesFewer}
 use Rattle.gate_io.specs.Links.{GoesTo, LinkLog, with_sent}
 use Rattle.frame_codec.specs.Frame.{Fields, Spells}
 use Rattle.frame_codec.specs.Octets.{IsFrame}
@@ -51,7 +51,7 @@ Returns old new left left_now log log_now Sent =
     (octets frame : List ℕ) × Codes old new left left_now octets frame × GoesTo log log_now (λ a b. b ≡ with_sent a (next_packet old frame))
 Returns old new left left_now log log_now Silent =
     (new ≡ record old { ended = true }) × (log_now ≡ log) × (((old.ended ≡ true) × (left_now ≡ left)) ⊎ ((old.ended ≡ false) × Consumes left left_now [] × IsAtEnd left_now))
-Returns old new left left_now log log_now MicFault = (new ≡ old) × (log_now ≡ log) × (old.ended ≡ false) × ConsumesSome left left_now
+Returns old new left left_now log log_now MicFault = (new ≡ old) × (log_now ≡ log) × (old.ended ≡ false) × ConsumesFewer 320 left left_now
 Returns old new left left_now log log_now ReplyFault =
     (octets frame : List ℕ) × Codes old new left left_now octets frame × GoesTo log log_now (λ a b. (b ≡ a) ⊎ (b ≡ with_sent a (next_packet old frame)))
 

@@ -3,7 +3,7 @@ use Rattle.std.specs.Prelude.{◌≡◌, ◌⊎◌, ℕ, suc, ◌+◌, ◌-◌, 
 use Rattle.std.specs.List.{flat_map, AllByRecursion}
 use Rattle.std.specs.Io.KnownBytes.{Appends, IsAtEnd}
 use Rattle.gate_base.specs.Faults.{Rose}
-use Rattle.gate_io.specs.Flow.{ConsumesSome}
+use Rattle.gate_io.specs.Flow.{ConsumesFewer}
 use Rattle.gate_io.specs.Links.{GoesTo, LinkLog}
 use Rattle.frame_codec.specs.declared.item.Item.{Item}
 use Rattle.play_machine.specs.declared.call.Call.{Call}
@@ -99,7 +99,7 @@ Returned JournalFault own sequence stamp served left left_now log log_now =
     (pieces packets : List (List ℕ)) × Served own sequence stamp served left left_now pieces packets × GoesTo log log_now (Sent packets)
 Returned MicFault own sequence stamp served left left_now log log_now =
     (pieces packets : List (List ℕ)) × (mid : Option (List ℕ)) × Served own sequence stamp served left mid pieces packets × (length pieces ≡ served)
-    × ConsumesSome mid left_now × GoesTo log log_now (Sent packets)
+    × ConsumesFewer 320 mid left_now × GoesTo log log_now (Sent packets)
 Returned ReplyFault own sequence stamp served left left_now log log_now =
     (pieces packets : List (List ℕ)) × Served own sequence stamp (suc served) left left_now pieces packets × (length pieces ≡ suc served)
     × GoesTo log log_now (SentOrNot packets)
