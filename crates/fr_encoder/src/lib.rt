@@ -4,11 +4,13 @@
 mod encoder;
 mod excitation;
 mod front;
+mod laws;
 mod piece_codes;
 mod preprocessing;
 
 pub use encoder::Encoder;
 pub use front::Front;
+pub use laws::coding_is_one;
 
 #[cfg(test)]
 mod tests;
