@@ -9,3 +9,4 @@ pub mod Earlier
 pub mod OneShortTerm
 pub mod OneExcitation
 pub mod OneCoding
+pub mod Judged
