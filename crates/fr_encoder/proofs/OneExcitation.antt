@@ -71,7 +71,7 @@ one_grid x m n p q = elim (cases_lt m n) [
   ]
 ]
 
--- a number has more than j digits where it has more than i, and i is at least j
+-- a number of i digits is no number of more
 too_few : (n i j : ℕ) → HasDigits n i → HasDigits n j → i < j → ⊥
 too_few n i j p q less =
     let up : 2 ^ i ≤ 2 ^ (j - 1) = pow-le-pow_right {n = 2} (omega arith) (omega arith) in
