@@ -6,9 +6,9 @@ use Rattle.gate_base.specs.Faults.{Rose}
 use Rattle.command_line.specs.Ranges.{IsCommand}
 use Rattle.command_line.specs.declared.line.Command.{Command}
 use Rattle.command_line.specs.declared.line.Command.TheVariants.{Simulate, Decode, Encode, Render, Verify, Make}
-use Rattle.gsmgate.specs.declared.status.Status.{Status}
+use Rattle.gate_notes.specs.declared.status.Status.{Status}
 use Rattle.gsmgate.specs.Commands.{CompletesAs}
-use Rattle.gsmgate.specs.Exchange.{NoneFell, SomeRose}
+use Rattle.gate_notes.specs.Exchange.{NoneFell, SomeRose}
 
 -- a command that is neither of these has one input
 pub one-input : (c : Command) (n : ℕ) → IsCommand c n → c ≢ Verify → ((seed count filers : ℕ) → c ≢ Make seed count filers) → n ≡ 1

@@ -12,12 +12,12 @@ use Rattle.gate_os.specs.Edges.{SocketState}
 use Rattle.command_line.specs.Said.{FilesSaid, Text}
 use Rattle.command_line.specs.Lines.{Said, fits_files, has_inputs, line_of}
 use Rattle.command_line.specs.declared.line.Line.TheVariants.{Files, Serve}
-use Rattle.gsmgate.specs.Exchange.{Giving}
+use Rattle.gate_notes.specs.Exchange.{Giving}
 use Rattle.gsmgate.specs.Gateway.{AreFresh, IsFresh, IsOpenedAt, IsQuiet, Starts, SystemGateway}
 use Rattle.gsmgate.specs.Places.{ArePlaces, journals_from, journals_of}
 use Rattle.gsmgate.specs.declared.places.Places.{Places}
 use Rattle.gsmgate.specs.declared.starting.Started.TheVariants.{Ended, Open}
-use Rattle.gsmgate.specs.declared.status.Status.TheVariants.{OutOfMemory}
+use Rattle.gate_notes.specs.declared.status.Status.TheVariants.{OutOfMemory}
 
 all-more : (P : SocketState → Type 0) (xs : List SocketState) (x : SocketState) → AllByRecursion P xs → P x → AllByRecursion P (xs ++ x ∷ [])
 all-more P [] x all one = (one, tt)

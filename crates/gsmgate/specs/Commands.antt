@@ -2,14 +2,14 @@
 use Rattle.std.specs.Prelude.{ℕ, List, [], ◌∷◌, Option}
 use Rattle.command_line.specs.declared.line.Command.{Command}
 use Rattle.command_line.specs.declared.line.Command.TheVariants.{Simulate, Decode, Encode, Render, Verify, Make}
-use Rattle.gsmgate.specs.declared.status.Status.{Status}
-use Rattle.gsmgate.specs.Exchange.{Giving, over}
-use Rattle.gsmgate.specs.Simulate as simulate
-use Rattle.gsmgate.specs.Decode as decode
-use Rattle.gsmgate.specs.Encode as encode
-use Rattle.gsmgate.specs.Render as render
-use Rattle.gsmgate.specs.Verify as verify
-use Rattle.gsmgate.specs.Make as make
+use Rattle.gate_notes.specs.declared.status.Status.{Status}
+use Rattle.gate_notes.specs.Exchange.{Giving, over}
+use Rattle.script_runs.specs.Simulate as simulate
+use Rattle.speech_files.specs.Decode as decode
+use Rattle.speech_files.specs.Encode as encode
+use Rattle.journal_runs.specs.Render as render
+use Rattle.journal_runs.specs.Verify as verify
+use Rattle.journal_runs.specs.Make as make
 
 -- there is one input, and this holds of it
 abbrev pub OfOne : (Option (List ℕ) → Type 0) → List (Option (List ℕ)) → Type 0

@@ -8,9 +8,9 @@ use Rattle.command_line.specs.Said.{FilesSaid, ServeSaid, Text}
 use Rattle.command_line.specs.Lines.{Said, fits_serve}
 use Rattle.command_line.specs.declared.line.Line.TheVariants.{Files, Serve}
 use Rattle.gsmgate.specs.Commands.{EndsAs}
-use Rattle.gsmgate.specs.Exchange.{GainedUnlessFault, Giving}
-use Rattle.gsmgate.specs.Notes.{usage_line}
-use Rattle.gsmgate.specs.Serve.{serve_lines}
+use Rattle.gate_notes.specs.Exchange.{GainedUnlessFault, Giving}
+use Rattle.gate_notes.specs.Notes.{usage_line}
+use Rattle.serve_runs.specs.Serve.{serve_lines}
 use Rattle.recorder.specs.declared.tally.Tally.{Tally}
 use Rattle.recorder.specs.declared.tally.PlayTally.{PlayTally}
 use Rattle.filer.specs.declared.run.FilerEnd.{FilerEnd}
@@ -18,8 +18,8 @@ use Rattle.gsmgate.specs.declared.gateway.Gateway.{Gateway}
 use Rattle.gsmgate.specs.declared.places.Places.{Places}
 use Rattle.gsmgate.specs.declared.starting.Started.{Started}
 use Rattle.gsmgate.specs.declared.starting.Started.TheVariants.{Ended, Open}
-use Rattle.gsmgate.specs.declared.status.Status.{Status}
-use Rattle.gsmgate.specs.declared.status.Status.TheVariants.{Usage, OutOfMemory}
+use Rattle.gate_notes.specs.declared.status.Status.{Status}
+use Rattle.gate_notes.specs.declared.status.Status.TheVariants.{Usage, OutOfMemory}
 
 abbrev pub SystemGateway : Type 0
 SystemGateway = Gateway SocketState FileState FileState FileState ClockState

@@ -1,9 +1,9 @@
 // The real objects: files of the folder where the tests run, sockets on loopback at free ports, and the system's clock.
 use crate::starting::{Started, run_on, start};
-use crate::status::Status;
 use crate::tests::{octets_of, words_of};
 use gate_base::OutOfMemory;
 use gate_io::{Failed, Link, MemorySink, Received, Sink, Source};
+use gate_notes::Status;
 use std::alloc::{AllocError, Global};
 use std::net::{Net, UdpSocket};
 use std::test::Fail;

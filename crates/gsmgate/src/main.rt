@@ -1,32 +1,13 @@
 //! The program: the words of the command line, the files that they name, and the commands over them.
 #![tactic(auto)]
 
-mod decode;
-mod encode;
-mod filers;
 mod gateway;
-mod journals;
-mod line;
-mod make;
-mod notes;
 mod offline;
-mod order_lines;
-mod page;
 mod places;
-mod playback;
-mod refusals;
-mod render;
-mod run;
-mod serve;
-mod serve_end;
-mod simulate;
 mod starting;
-mod status;
-mod stop;
-mod verify;
 
 use crate::starting::{run_on, start};
-use crate::status::{Status, code_of};
+use gate_notes::{Status, code_of};
 use gate_os::OsSink;
 use std::alloc::AllocError;
 use std::env;
@@ -53,16 +34,8 @@ fn main(rt: HostRuntime) -> ExitCode {
 }
 
 #[cfg(test)]
+mod command_tests;
+#[cfg(test)]
 mod gateway_tests;
 #[cfg(test)]
-mod packet_tests;
-#[cfg(test)]
-mod serve_tests;
-#[cfg(test)]
-mod speech_tests;
-#[cfg(test)]
 mod tests;
-#[cfg(test)]
-mod thread_tests;
-#[cfg(test)]
-mod verify_tests;

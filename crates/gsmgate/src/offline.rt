@@ -2,24 +2,20 @@
 ghost use Rattle.std.specs.Prelude.{◌≡◌, ◌≤◌, ◌↔◌, ◌⊎◌, [], ◌∷◌, Some, true, false, map, length};
 ghost use Rattle.std.specs.String.{string_bytes};
 ghost use Rattle.gate_base.specs.Faults.{Rose};
-ghost use Rattle.gsmgate.specs.Exchange.{GainedUnlessFault, Giving, NoneFell, SomeRose};
-ghost use Rattle.gsmgate.specs.Notes.{usage_line};
+ghost use Rattle.gate_notes.specs.Exchange.{GainedUnlessFault, Giving, NoneFell, SomeRose};
+ghost use Rattle.gate_notes.specs.Notes.{usage_line};
 ghost use Rattle.gsmgate.specs.Commands.{CompletesAs, EndsAs};
 ghost use Rattle.command_line.specs.Said.{FilesSaid};
 ghost use Rattle.command_line.specs.Lines.{fits_files, has_inputs, line_of};
 ghost use Rattle.command_line.specs.Ranges.{IsCommand, IsWithin};
 ghost use Rattle.command_line.specs.declared.line.Line.TheVariants.{Files};
 
-use crate::decode::decode;
-use crate::encode::encode;
-use crate::make::make;
-use crate::notes::give_usage;
-use crate::render::render;
-use crate::simulate::simulate;
-use crate::status::Status;
-use crate::verify::verify;
 use command_line::{Command, FilesLine, Line, Refusal, read_line};
-use gate_io::{Failed, Sink, Source};
+use gate_io::{Sink, Source};
+use gate_notes::{Status, refuse_words};
+use journal_runs::{make, render, verify};
+use script_runs::simulate;
+use speech_files::{decode, encode};
 use std::alloc::Global;
 
 /// Does the command of the words over the inputs, the output and the notes that are handed in.
@@ -197,18 +193,5 @@ fn run_one<I: Source, O: Sink, E: Sink>(
         Command::Render { seed } => render(seed, input, output, notes),
         Command::Verify => unreachable!(),
         Command::Make { .. } => unreachable!(),
-    }
-}
-
-// Notes that the words are no line. A fault of the notes changes nothing in the answer.
-pub(crate) fn refuse_words<E: Sink>(notes: &mut E) -> Status
-    ensures status { result ≡ Status.Usage }
-    ensures noted { GainedUnlessFault (E.given notes.old) (E.given notes.new) (E.faults notes.old) (E.faults notes.new) usage_line }
-    ensures later { E.faults notes.old ≤ E.faults notes.new }
-    ensures kin { E.kin notes.old notes.new }
-{
-    match give_usage(notes) {
-        Ok(()) => Status::Usage,
-        Err(Failed) => Status::Usage,
     }
 }

@@ -5,8 +5,8 @@ ghost use Rattle.command_line.specs.Lines.{line_of};
 ghost use Rattle.command_line.specs.Ranges.{IsWithin};
 ghost use Rattle.gsmgate.specs.Places.{AreFilePlaces, ArePlaces, AreServePlaces, journals_of};
 
-use crate::status::Status;
 use command_line::{FilesLine, Line, Refusal, ServeLine, read_line};
+use gate_notes::Status;
 use itoa::Buffer;
 use std::alloc::{AllocError, Global};
 

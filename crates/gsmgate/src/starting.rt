@@ -9,9 +9,9 @@ ghost use Rattle.gsmgate.specs.Gateway.{IsDone, IsRefused, IsRunOn, Starts, noti
 use crate::gateway::{Gateway, OsGateway, open_gateway, run_gateway};
 use crate::offline::run_offline;
 use crate::places::{Places, addresses};
-use crate::status::Status;
 use gate_base::OutOfMemory;
 use gate_io::{Link, Sink, Source, TickClock};
+use gate_notes::Status;
 use gate_os::{OsSink, OsSource};
 use std::alloc::Global;
 use std::fs::Files;

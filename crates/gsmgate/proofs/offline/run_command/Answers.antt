@@ -2,7 +2,7 @@ use Rattle.std.proofs.Common.{◌≡◌, ◌∷◌, [], List, length, map, slice
 use Rattle.std.specs.Prelude.{◌⊎◌}
 use Rattle.gate_base.specs.Faults.{Rose}
 use Rattle.gsmgate.specs.Commands.{CompletesAs, EndsAs}
-use Rattle.gsmgate.specs.Exchange.{Giving, SomeRose}
+use Rattle.gate_notes.specs.Exchange.{Giving, SomeRose}
 use Rattle.gsmgate.proofs.Lines.{completes-weaker, one-fell, one-input, one-item, one-rose, one-set, rose-among}
 use Rattle.gsmgate.proofs.offline.run_command.Goals as goal
 

@@ -6,7 +6,7 @@ use Rattle.gate_base.specs.Faults.{Rose}
 use Rattle.command_line.specs.Said.{FilesSaid}
 use Rattle.command_line.specs.declared.line.Command.{Command}
 use Rattle.gsmgate.specs.Commands.{CompletesAs, EndsAs}
-use Rattle.gsmgate.specs.Exchange.{Giving, SomeRose}
+use Rattle.gate_notes.specs.Exchange.{Giving, SomeRose}
 use Rattle.gsmgate.proofs.offline.run_over.Goals as goal
 
 pub returns-clause-ran : goal.returns-clause-ran

@@ -2,7 +2,7 @@ use Rattle.std.proofs.Common.{map, subst, sym}
 use Rattle.std.specs.String.{string_bytes}
 use Rattle.std.proofs.KnownBytes.{Keeps-refl}
 use Rattle.command_line.specs.Lines.{line_of}
-use Rattle.gsmgate.specs.Exchange.{Giving}
+use Rattle.gate_notes.specs.Exchange.{Giving}
 use Rattle.gsmgate.specs.Gateway.{Starts, SystemGateway, noting}
 use Rattle.gsmgate.specs.declared.starting.Started.{Started}
 use Rattle.gsmgate.proofs.Opening.{opened, starved}

@@ -1,0 +1,5 @@
+pub mod Exchange
+pub mod Notes
+pub mod Outcomes
+pub mod Pages
+pub mod Statuses

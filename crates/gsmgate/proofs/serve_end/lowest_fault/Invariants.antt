@@ -1,6 +1,0 @@
-use Rattle.std.proofs.Common.{◌≡◌, drop}
-use Rattle.gsmgate.specs.Serve.{lowest_fault}
-use Rattle.gsmgate.proofs.serve_end.lowest_fault.Given as goal
-
-abbrev pub invariant-filers : goal.invariant-filers
-invariant-filers l = lowest_fault l.filers ≡ lowest_fault (drop l.k l.filers)

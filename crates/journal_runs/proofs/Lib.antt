@@ -1,0 +1,4 @@
+pub mod ReadJournals
+pub mod Refuted
+pub mod VerifyEnds
+pub mod OrderLines

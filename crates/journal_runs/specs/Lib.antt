@@ -1,0 +1,4 @@
+pub mod Render
+pub mod Verify
+pub mod VerifyRuns
+pub mod Make

@@ -1,0 +1,40 @@
+use Rattle.std.proofs.Common.{[], ◌∷◌, true, refl}
+use Rattle.playout.specs.declared.call.Call.TheVariants.{TickCall}
+use Rattle.playout.specs.History.{entry}
+use Rattle.script_runs.specs.Calls.{bare}
+use Rattle.script_runs.specs.declared.run.Run.{Run}
+use Rattle.script_runs.proofs.Events.{tick_applies}
+use Rattle.script_runs.proofs.Playbacks.{call-goes-on}
+use Rattle.script_runs.proofs.run.Run.tick.Goals as goal
+
+pub returns-in-Ok-clause-applied : goal.returns-in-Ok-clause-applied
+returns-in-Ok-clause-applied g c =
+    let old = c.args.self in
+    let item = c.tick-item.result in
+    let new : Run = record { line = c.tick-item.new.self; filers = old.filers; ticked = true; played = c.item.new.self; filed = old.filed } in
+    let played = c.in-Ok.ensures.played in (
+      new,
+      bare (entry old.line.filers (TickCall item) ∷ []),
+      played.0,
+      tick_applies old new item c.tick-item.ensures.step refl refl c.item.ensures refl,
+      refl,
+      call-goes-on old.line.filers (TickCall item) item c.args.playback.now c.item-2.new.self played.0 refl played.1,
+      played.2,
+      refl,
+    )
+
+pub returns-in-Err-clause-applied : goal.returns-in-Err-clause-applied
+returns-in-Err-clause-applied g c =
+    let old = c.args.self in
+    let item = c.tick-item.result in
+    let new : Run = record { line = c.tick-item.new.self; filers = old.filers; ticked = true; played = c.item.new.self; filed = old.filed } in
+    let played = c.in-Err.ensures.played in (
+      new,
+      bare (entry old.line.filers (TickCall item) ∷ []),
+      played.0,
+      tick_applies old new item c.tick-item.ensures.step refl refl c.item.ensures refl,
+      tt,
+      call-goes-on old.line.filers (TickCall item) item c.args.playback.now c.item-2.new.self played.0 refl played.1,
+      played.2,
+      refl,
+    )

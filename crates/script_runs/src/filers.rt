@@ -1,0 +1,46 @@
+// The filers of a script.
+ghost use Rattle.std.specs.Prelude.{◌≡◌, ◌≤◌, ◌<◌, Some, IfOk, length, replicate, slice_get, slice_set};
+ghost use Rattle.playout.specs.History.{Chained};
+ghost use Rattle.playout.specs.Line.{FilerSteps};
+ghost use Rattle.filer.specs.Journals.{EndFits};
+ghost use Rattle.filer.specs.Takes.{IsTaken, Known, calls_of};
+ghost use Rattle.script_runs.specs.Calls.{new_filer};
+
+use filer::{Filer, Outcome};
+use gate_base::OutOfMemory;
+use playout::MapFiler;
+use recorder::Packet;
+use std::alloc::Global;
+
+// No report is sent, so neither of them shows.
+const OWN: u32 = 0;
+
+const REPORT: u32 = u32::MAX;
+
+/// So many new filers, one for each caller that files.
+pub fn new_filers(alloc: Global, count: u8, delay: u16) -> Result<Vec<Filer>, OutOfMemory>
+    requires { delay ≤ 1023 }
+    ensures { IfOk result (λ filers. filers.items ≡ replicate count (new_filer delay)) }
+{
+    let mut filers = Vec::new(alloc);
+    for _ in 0..count {
+        filers.push(Filer::new(delay as u32, OWN, REPORT))?;
+    }
+    Ok(filers)
+}
+
+/// A datagram is taken by its caller's filer, over that caller's side.
+pub fn take_by(
+    filers: &mut [Filer],
+    caller: u8,
+    side: &mut MapFiler,
+    datagram: &Packet,
+    at: u32,
+) -> Outcome
+    requires { caller < length filers.old }
+    ensures taken { (k : Known) × (later : Known) × (slice_get filers.old caller ≡ Some k) × (filers.new ≡ slice_set filers.old caller later)
+        × IsTaken k datagram.now at result later × Chained FilerSteps side.old (calls_of k datagram.now at result) side.new }
+    ensures fits { EndFits result.end }
+{
+    filers[caller as usize].take(side, datagram.octets(), at)
+}

@@ -1,0 +1,232 @@
+// A script's run as it goes on.
+ghost use Rattle.std.specs.Prelude.{◌≡◌, ◌≤◌, ◌<◌, ◌^◌, ◌⊎◌, ◌++◌, List, OnErr, IfOk, ℕ, [], length, false, None, Some};
+ghost use Rattle.std.specs.List.{flat_map};
+ghost use Rattle.gate_base.specs.Faults.{HasCause, Rose};
+ghost use Rattle.gate_io.specs.Flow.{Gives};
+ghost use Rattle.playout.specs.History.{calls_of};
+ghost use Rattle.recorder.specs.Play.{call_text};
+ghost use Rattle.recorder.specs.Tallies.{call_items, no_plays, no_tally};
+ghost use Rattle.recorder.specs.declared.events.ScriptEvent.TheVariants.{Tick, File, Datagram, Beat};
+ghost use Rattle.script_runs.specs.Calls.{IsCallable, Turn};
+ghost use Rattle.script_runs.specs.TurnLines.{turn_lines};
+ghost use Rattle.script_runs.specs.Playing.{GoesOn};
+ghost use Rattle.script_runs.specs.declared.playback.Playback.{Playback};
+ghost use Rattle.script_runs.specs.declared.run.Run.{Run};
+
+use crate::filers::take_by;
+use crate::playback::Playback;
+use filer::{Filer, count_end};
+use frame_codec::{Frame33, Item};
+use gate_io::{Failed, Sink};
+use gate_notes::{give_end, give_reply};
+use playout::{MapFiler, MapLine};
+use recorder::{Packet, PlayTally, ScriptEvent, Tally};
+
+/// A script's run: the line that its events call, the callers' states, and what was counted of the calls.
+#[derive(Drop)]
+pub struct Run {
+    pub line: MapLine,
+    /// The filers, by their caller numbers.
+    pub filers: Vec<Filer>,
+    /// Whether the player has made a tick.
+    pub ticked: bool,
+    pub played: PlayTally,
+    pub filed: Tally,
+}
+
+impl Run {
+    ghost use Rattle.script_runs.specs.Applies.{Applies};
+
+    /// A run before its first event.
+    pub fn new(line: MapLine, filers: Vec<Filer>) -> Run
+        ensures { result ≡ record { line = line; filers = filers; ticked = false; played = no_plays; filed = no_tally } }
+    {
+        Run {
+            line,
+            filers,
+            ticked: false,
+            played: PlayTally::new(),
+            filed: Tally::new(),
+        }
+    }
+
+    /// Makes the calls of an event, and answers the run behind it. The output gets what the playback has of the
+    /// calls, and the notes the event's lines.
+    pub fn apply<O: Sink, E: Sink>(
+        self,
+        event: &ScriptEvent,
+        playback: &mut Playback,
+        output: &mut O,
+        notes: &mut E,
+    ) -> Result<Run, Failed>
+        requires callable { IsCallable self.line.filers event.now }
+        requires filers { length self.filers.items ≡ self.line.filers }
+        requires position { self.line.machine.position < 2 ^ 33 }
+        ensures applied { (new : Run) × (turn : Turn) × (text : List ℕ) × Applies event.now self new turn × IfOk result (λ run. run ≡ new)
+            × GoesOn (flat_map call_text (calls_of self.line.filers turn.calls)) (flat_map call_items (calls_of self.line.filers turn.calls)) playback.old playback.new text
+            × Gives (O.given output.old) (O.given output.new) result text
+            × Gives (E.given notes.old) (E.given notes.new) result (turn_lines turn) }
+        ensures later { (O.faults output.old ≤ O.faults output.new) × (E.faults notes.old ≤ E.faults notes.new) }
+        ensures failed { OnErr result (Rose (O.faults output.old) (O.faults output.new) ⊎ Rose (E.faults notes.old) (E.faults notes.new)) }
+        ensures kin { O.kin output.old output.new × E.kin notes.old notes.new }
+    {
+        match event {
+            ScriptEvent::Tick => self.tick(playback, output),
+            ScriptEvent::File {
+                caller,
+                number,
+                frame,
+            } => self.file(*caller, *number, frame, notes),
+            ScriptEvent::Datagram { caller, at, octets } => {
+                self.datagram(*caller, *at, octets, notes)
+            }
+            ScriptEvent::Beat => self.beat(playback, output),
+        }
+    }
+
+    // The player's tick.
+    fn tick<O: Sink>(mut self, playback: &mut Playback, output: &mut O) -> Result<Run, Failed>
+        requires position { self.line.machine.position < 2 ^ 33 }
+        ensures applied { (new : Run) × (turn : Turn) × (text : List ℕ) × Applies Tick self new turn × IfOk result (λ run. run ≡ new)
+            × GoesOn (flat_map call_text (calls_of self.line.filers turn.calls)) (flat_map call_items (calls_of self.line.filers turn.calls)) playback.old playback.new text
+            × Gives (O.given output.old) (O.given output.new) result text
+            × (turn_lines turn ≡ []) }
+        ensures cause { HasCause (O.faults output.old) (O.faults output.new) result }
+        ensures kin { O.kin output.old output.new }
+    {
+        let item = self.line.tick();
+        self.played.item(&item);
+        self.ticked = true;
+        match playback.item(item, output) {
+            Ok(()) => Ok(self),
+            Err(Failed) => Err(Failed),
+        }
+    }
+
+    // The player's beat.
+    fn beat<O: Sink>(self, playback: &mut Playback, output: &mut O) -> Result<Run, Failed>
+        requires position { self.line.machine.position < 2 ^ 33 }
+        ensures applied { (new : Run) × (turn : Turn) × (text : List ℕ) × Applies Beat self new turn × IfOk result (λ run. run ≡ new)
+            × GoesOn (flat_map call_text (calls_of self.line.filers turn.calls)) (flat_map call_items (calls_of self.line.filers turn.calls)) playback.old playback.new text
+            × Gives (O.given output.old) (O.given output.new) result text
+            × (turn_lines turn ≡ []) }
+        ensures cause { HasCause (O.faults output.old) (O.faults output.new) result }
+        ensures kin { O.kin output.old output.new }
+    {
+        if self.ticked {
+            return self.tick(playback, output);
+        }
+        match self.line.peek() {
+            None => self.idle(playback, output),
+            Some(base) => self.first_tick(base, playback, output),
+        }
+    }
+
+    // A beat without a base.
+    fn idle<O: Sink>(mut self, playback: &mut Playback, output: &mut O) -> Result<Run, Failed>
+        requires ticked { self.ticked ≡ false }
+        requires base { self.line.machine.base ≡ None }
+        ensures applied { (new : Run) × (turn : Turn) × (text : List ℕ) × Applies Beat self new turn × IfOk result (λ run. run ≡ new)
+            × GoesOn (flat_map call_text (calls_of self.line.filers turn.calls)) (flat_map call_items (calls_of self.line.filers turn.calls)) playback.old playback.new text
+            × Gives (O.given output.old) (O.given output.new) result text
+            × (turn_lines turn ≡ []) }
+        ensures cause { HasCause (O.faults output.old) (O.faults output.new) result }
+        ensures kin { O.kin output.old output.new }
+    {
+        let item = Item::Idle;
+        self.played.item(&item);
+        match playback.item(item, output) {
+            Ok(()) => Ok(self),
+            Err(Failed) => Err(Failed),
+        }
+    }
+
+    // The beat that sees the base, and ticks.
+    fn first_tick<O: Sink>(
+        mut self,
+        base: u32,
+        playback: &mut Playback,
+        output: &mut O,
+    ) -> Result<Run, Failed>
+        requires ticked { self.ticked ≡ false }
+        requires base { self.line.machine.base ≡ Some base }
+        requires position { self.line.machine.position < 2 ^ 33 }
+        ensures applied { (new : Run) × (turn : Turn) × (text : List ℕ) × Applies Beat self new turn × IfOk result (λ run. run ≡ new)
+            × GoesOn (flat_map call_text (calls_of self.line.filers turn.calls)) (flat_map call_items (calls_of self.line.filers turn.calls)) playback.old playback.new text
+            × Gives (O.given output.old) (O.given output.new) result text
+            × (turn_lines turn ≡ []) }
+        ensures cause { HasCause (O.faults output.old) (O.faults output.new) result }
+        ensures kin { O.kin output.old output.new }
+    {
+        let item = self.line.tick();
+        self.played.item(&item);
+        self.ticked = true;
+        match playback.first_item(base, item, output) {
+            Ok(()) => Ok(self),
+            Err(Failed) => Err(Failed),
+        }
+    }
+
+    // A filer's bare call.
+    fn file<E: Sink>(
+        mut self,
+        caller: u8,
+        number: u64,
+        frame: &Frame33,
+        notes: &mut E,
+    ) -> Result<Run, Failed>
+        requires caller { caller < self.line.filers }
+        requires number { number < 2 ^ 47 }
+        ensures applied { (new : Run) × (turn : Turn) × Applies (File caller number frame.now) self new turn × IfOk result (λ run. run ≡ new)
+            × (calls_of self.line.filers turn.calls ≡ [])
+            × Gives (E.given notes.old) (E.given notes.new) result (turn_lines turn) }
+        ensures cause { HasCause (E.faults notes.old) (E.faults notes.new) result }
+        ensures kin { E.kin notes.old notes.new }
+    {
+        let reply = self.line.file(caller as u32, number, frame);
+        self.filed.reply(&reply);
+        match give_reply(caller, number, &reply, notes) {
+            Ok(()) => Ok(self),
+            Err(Failed) => Err(Failed),
+        }
+    }
+
+    // A filer takes a datagram.
+    fn datagram<E: Sink>(
+        self,
+        caller: u8,
+        at: u32,
+        octets: &Packet,
+        notes: &mut E,
+    ) -> Result<Run, Failed>
+        requires caller { caller < self.line.filers }
+        requires filers { length self.filers.items ≡ self.line.filers }
+        ensures applied { (new : Run) × (turn : Turn) × Applies (Datagram caller at octets.now) self new turn × IfOk result (λ run. run ≡ new)
+            × (calls_of self.line.filers turn.calls ≡ [])
+            × Gives (E.given notes.old) (E.given notes.new) result (turn_lines turn) }
+        ensures cause { HasCause (E.faults notes.old) (E.faults notes.new) result }
+        ensures kin { E.kin notes.old notes.new }
+    {
+        let Run {
+            line,
+            mut filers,
+            ticked,
+            played,
+            mut filed,
+        } = self;
+        let mut side = MapFiler::of(line, caller as u32);
+        let outcome = take_by(filers.as_mut_slice(), caller, &mut side, octets, at);
+        count_end(&mut filed, &outcome.end);
+        let run = Run {
+            line: side.back(),
+            filers,
+            ticked,
+            played,
+            filed,
+        };
+        match give_end(caller, &outcome.end, notes) {
+            Ok(()) => Ok(run),
+            Err(Failed) => Err(Failed),
+        }
+    }
+}

@@ -1,0 +1,25 @@
+use Rattle.std.proofs.Common.{inl}
+use Rattle.std.proofs.KnownBytes.{Appends-nil}
+use Rattle.gate_notes.specs.Exchange.{Exchange}
+use Rattle.speech_files.proofs.DecodeEnds.{cut, not_refused}
+use Rattle.speech_files.proofs.decode_command.decode.Goals as goal
+
+pub returns-in-Err-clause-ends : goal.returns-in-Err-clause-ends
+returns-in-Err-clause-ends g c =
+    let x : Exchange = record { input = g.I.Source.left c.args.input.now; output = g.O.Sink.given c.args.output.now; output_now = g.O.Sink.given c.decode_frames.new.output; notes = g.E.Sink.given c.args.notes.now; notes_now = g.E.Sink.given c.give_frames.new.notes; noted = g.E.Sink.faults c.args.notes.now; noted_now = g.E.Sink.faults c.give_frames.new.notes } in
+    let ran = c.in-Ok.ensures.ran in
+    cut x ran.0 ran.1 c.in-Ok.count ran.2 c.in-Err.ensures.given
+
+pub returns-in-Err-WriteFault-clause-ends : goal.returns-in-Err-WriteFault-clause-ends
+returns-in-Err-WriteFault-clause-ends g c =
+    let all = rw c.in-Err-WriteFault.field-0-is at c.in-Err-WriteFault.ensures in
+    let ran = all.ran in
+    (ran.0, ran.1, ran.2.decoded, inl (ran.2.text, ran.2.given, Appends-nil (g.E.Sink.given c.args.notes.now)))
+
+pub returns-in-Err-Refused-clause-complete : goal.returns-in-Err-Refused-clause-complete
+returns-in-Err-Refused-clause-complete g c = λ frames told whole few fine.
+    let x : Exchange = record { input = g.I.Source.left c.args.input.now; output = g.O.Sink.given c.args.output.now; output_now = g.O.Sink.given c.decode_frames.new.output; notes = g.E.Sink.given c.args.notes.now; notes_now = g.E.Sink.given c.note_fault.new.notes; noted = g.E.Sink.faults c.args.notes.now; noted_now = g.E.Sink.faults c.note_fault.new.notes } in
+    let all = rw c.in-Err-Refused.field-0-is at c.in-Err-Refused.ensures in
+    let ran = all.ran in
+    let noted = rw c.in-Err-Refused.fault-is at c.note_fault.ensures.noted in
+    absurd (not_refused x frames (c.in-Err-Refused.fault, ran.0, ran.1, ran.2.decoded, ran.2.text, ran.2.given, noted) told whole few)

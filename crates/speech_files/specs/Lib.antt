@@ -1,0 +1,4 @@
+pub mod Decode
+pub mod DecodeRuns
+pub mod Encode
+pub mod EncodeRuns
