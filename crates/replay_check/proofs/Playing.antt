@@ -1,5 +1,5 @@
 -- What the loop over a journal's events keeps.
-use Rattle.std.proofs.Common.{◌≡◌, ℕ, ◌≤◌, ◌<◌, List, [], ◌∷◌, ◌++◌, length, Bool, true, Option, Some, None, Ok, refl, sym, ap, subst, ◌∙◌, append_assoc, append-nil, length-append, arith}
+use Rattle.std.proofs.Common.{◌≡◌, ℕ, take, ◌≤◌, ◌<◌, List, [], ◌∷◌, ◌++◌, length, Bool, true, Option, Some, None, Ok, refl, sym, ap, subst, ◌∙◌, append_assoc, append-nil, length-append, arith}
 use Rattle.std.specs.Prelude.{ℤ, IfSome}
 use Rattle.std.specs.List.{flat_map}
 use Rattle.std.specs.Int.{w16, cast_unsigned}
@@ -20,7 +20,7 @@ use Rattle.recorder.specs.Play.{AllPlayFit, PlayFits, may_open, play_event_text,
 use Rattle.recorder.specs.Reader.{PlayProgress, stepped_play}
 use Rattle.recorder.specs.Tallies.{play_tally}
 use Rattle.substitution.specs.Heard.{Sounding, Voices, sample_octets}
-use Rattle.replay_check.specs.Render.{Follows, Played, event_items, items_of}
+use Rattle.replay_check.specs.Render.{BreaksOff, Follows, Played, StopsShort, TookEvent, event_items, items_of}
 use Rattle.replay_check.specs.declared.rendering.RenderEnd.TheVariants.{Done, Refused, ReadFault, WriteFault}
 
 abbrev pub journal : Heading → List PlayEvent → PlayerRecord
@@ -111,6 +111,17 @@ module _ (seed : List ℕ) (h : Heading) (reader reader' : PlayProgress) (voice 
     tallied = tt;
   }
 
+  pub playing-breaks : AppendsPart given given' (sample_octets speech) → BreaksOff seed (flat_map play_event_text events) input left' before given' (journal h events) e
+  playing-breaks gave = record {
+    fits = record { head = s.heading; events = more-fits; few = more-few };
+    taken = Consumes-trans input left left' (flat_map play_event_text events) (play_event_text e) s.taken taken;
+    samples = samples;
+    speech = speech;
+    heard = s.voices.heard;
+    plays = more-voices.heard;
+    given = (gave.0, Appends-trans before given given' (sample_octets samples) (take gave.0 (sample_octets speech)) s.given gave.1);
+  }
+
 module _ (seed : List ℕ) (h : Heading) (reader : PlayProgress) (voice : Sounding) (tally : PlayTally) (input left before now : Option (List ℕ)) (events : List PlayEvent) (samples : List ℤ)
     (s : Playing seed h reader voice tally input left before now events samples) where
   -- the end mark was read
@@ -152,4 +163,13 @@ module _ (seed : List ℕ) (h : Heading) (reader : PlayProgress) (voice : Soundi
     heard = s.voices.heard;
     given = s.given;
     tallied = tt;
+  }
+
+  pub playing-short : (left' : Option (List ℕ)) → TookEvent left left' → StopsShort seed (flat_map play_event_text events) input left' before now (journal h events)
+  playing-short left' lost = record {
+    fits = record { head = s.heading; events = s.fits; few = s.few };
+    taken = (left, s.taken, lost);
+    samples = samples;
+    heard = s.voices.heard;
+    given = s.given;
   }

@@ -3,13 +3,14 @@ use Rattle.std.proofs.Common.{◌≡◌, ℕ, List, ◌++◌, Option, Some, None
 use Rattle.std.specs.Prelude.{ℤ, IfSome, take}
 use Rattle.std.specs.List.{flat_map}
 use Rattle.std.specs.Io.KnownBytes.{Consumes}
+use Rattle.std.proofs.KnownBytes.{Consumes-trans}
 use Rattle.recorder.specs.declared.fault.RecordFault.{RecordFault}
 use Rattle.recorder.specs.Heads.{Heading, head_fault, head_text, play_magic}
 use Rattle.recorder.specs.Journals.{HasPlayerFault, PlayerRecord, PlayersHaveNoFault, player_front}
 use Rattle.recorder.specs.Play.{play_event_text}
-use Rattle.replay_check.specs.Render.{Completes, Follows, Played, Renders}
+use Rattle.replay_check.specs.Render.{Completes, Follows, Played, Renders, Stops, StopsBehind, StopsReading, StopsShort}
 use Rattle.replay_check.specs.declared.rendering.RenderEnd.{RenderEnd}
-use Rattle.replay_check.specs.declared.rendering.RenderEnd.TheVariants.{Refused}
+use Rattle.replay_check.specs.declared.rendering.RenderEnd.TheVariants.{Done, Refused, ReadFault, WriteFault}
 
 -- the head stands before the events
 pub with-head : (seed : List ℕ) (h : Heading) (end : RenderEnd) (input mid before now : Option (List ℕ)) (j : PlayerRecord) (samples : List ℤ) → j.head ≡ h → Consumes input mid (head_text play_magic h)
@@ -33,3 +34,32 @@ has_fault seed f octets input before now (inr (j, samples, played)) told =
 pub completes : (seed : List ℕ) (end : RenderEnd) (input before now : Option (List ℕ)) → PlayersHaveNoFault → Renders seed end input before now → Completes end input
 completes seed end input before now law renders octets j told whole f is =
     law octets j f whole (has_fault seed f octets input before now (subst (λ (e : RenderEnd). Renders seed e input before now) is renders) told)
+
+-- ---- where it stopped
+
+-- the head stands before the events
+short-behind : (seed : List ℕ) (h : Heading) (input mid left before now : Option (List ℕ)) → Consumes input mid (head_text play_magic h)
+    → ((j : PlayerRecord) × (j.head ≡ h) × StopsShort seed (flat_map play_event_text j.events) mid left before now j) → StopsReading seed input left before now
+short-behind seed h input mid left before now read (j, is, s) =
+    let head : Consumes input mid (head_text play_magic j.head) = subst (λ (k : Heading). Consumes input mid (head_text play_magic k)) (sym is) read in
+    inr (j, record { fits = s.fits; taken = (s.taken.0, Consumes-trans input mid s.taken.0 (head_text play_magic j.head) (flat_map play_event_text j.events) head s.taken.1, s.taken.2); samples = s.samples; heard = s.heard; given = s.given })
+
+pub stops-behind : (seed : List ℕ) (h : Heading) (end : RenderEnd) (input mid left before now : Option (List ℕ)) → Consumes input mid (head_text play_magic h) → StopsBehind seed end h mid left before now → Stops seed end input left before now
+stops-behind seed h (Done tally) input mid left before now read s = tt
+stops-behind seed h (Refused f) input mid left before now read s = short-behind seed h input mid left before now read s
+stops-behind seed h ReadFault input mid left before now read s = short-behind seed h input mid left before now read s
+stops-behind seed h WriteFault input mid left before now read (j, last, is, s) =
+    let head : Consumes input mid (head_text play_magic j.head) = subst (λ (k : Heading). Consumes input mid (head_text play_magic k)) (sym is) read in
+    let whole : head_text play_magic j.head ++ (flat_map play_event_text j.events ++ play_event_text last) ≡ player_front j ++ play_event_text last = sym (append_assoc (head_text play_magic j.head) (flat_map play_event_text j.events) (play_event_text last)) in (
+      j,
+      last,
+      record {
+        fits = s.fits;
+        taken = subst (Consumes input left) whole (Consumes-trans input mid left (head_text play_magic j.head) (flat_map play_event_text j.events ++ play_event_text last) head s.taken);
+        samples = s.samples;
+        speech = s.speech;
+        heard = s.heard;
+        plays = s.plays;
+        given = s.given;
+      },
+    )

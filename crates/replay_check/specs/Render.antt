@@ -1,16 +1,16 @@
 -- The speech of a player's journal.
-use Rattle.std.specs.Prelude.{ℕ, ◌≡◌, ◌⊎◌, List, [], ◌∷◌, ◌++◌, length, take, ℤ, true, Option, Some, IfSome}
+use Rattle.std.specs.Prelude.{ℕ, ◌+◌, ◌≡◌, ◌⊎◌, List, [], ◌∷◌, ◌++◌, length, take, ℤ, true, Option, Some, IfSome}
 use Rattle.std.specs.List.{flat_map}
-use Rattle.std.specs.Io.KnownBytes.{Appends, Keeps}
-use Rattle.gate_io.specs.Flow.{AppendsPart}
+use Rattle.std.specs.Io.KnownBytes.{Appends, Consumes, Keeps}
+use Rattle.gate_io.specs.Flow.{AppendsPart, ConsumesFewer}
 use Rattle.frame_codec.specs.declared.item.Item.{Item}
 use Rattle.frame_codec.specs.declared.item.Item.TheVariants as items
 use Rattle.recorder.specs.declared.events.PlayEvent.{PlayEvent}
 use Rattle.recorder.specs.declared.events.PlayEvent.TheVariants.{Idle, Base, Erasure, Frame}
 use Rattle.recorder.specs.Files.{end_mark}
-use Rattle.recorder.specs.Heads.{head_fault, play_magic}
+use Rattle.recorder.specs.Heads.{Heading, head_fault, play_magic}
 use Rattle.recorder.specs.Journals.{IsPlayerJournal, PlayerRecord, PlayerRecordFits, opening_behind, player_front}
-use Rattle.recorder.specs.Play.{play_fault_at}
+use Rattle.recorder.specs.Play.{longest_play, play_event_text, play_fault_at}
 use Rattle.recorder.specs.Tallies.{play_tally}
 use Rattle.substitution.specs.Heard.{IsHeard, sample_octets}
 use Rattle.replay_check.specs.declared.rendering.RenderEnd.{RenderEnd}
@@ -71,3 +71,48 @@ Renders seed end input before now = NothingPlayed end input before now ⊎ ((j :
 -- a whole journal is not refused
 abbrev pub Completes : RenderEnd → Option (List ℕ) → Type 0
 Completes end input = (octets : List ℕ) (j : PlayerRecord) → input ≡ Some octets → IsPlayerJournal octets j → (f : _) → end ≡ Refused f → ⊥
+
+-- ---- where a render stopped, and what was read and given by then
+
+-- A give failed. The journal was read up to an event: all of the speech before that event was given, and a front of what the event plays.
+pub record BreaksOff (seed front : List ℕ) (input left before now : Option (List ℕ)) (j : PlayerRecord) (last : PlayEvent) : Type 0 where
+  pub fits : PlayerRecordFits (record { head = j.head; events = j.events ++ last ∷ [] })
+  pub taken : Consumes input left (front ++ play_event_text last)
+  pub samples : List ℤ
+  pub speech : List ℤ
+  pub heard : IsHeard seed (items_of j.events) samples
+  pub plays : IsHeard seed (items_of (j.events ++ last ∷ [])) (samples ++ speech)
+  pub given : (k : ℕ) × Appends before now (sample_octets samples ++ take k (sample_octets speech))
+
+-- no more than a head's octets were taken, or an event's
+abbrev pub TookHead : Option (List ℕ) → Option (List ℕ) → Type 0
+TookHead input left = ConsumesFewer 13 input left
+
+abbrev pub TookEvent : Option (List ℕ) → Option (List ℕ) → Type 0
+TookEvent input left = ConsumesFewer (longest_play + 1) input left
+
+-- The reading stopped behind these events, of which all speech was given. No more than an event's octets were taken behind them.
+pub record StopsShort (seed front : List ℕ) (input left before now : Option (List ℕ)) (j : PlayerRecord) : Type 0 where
+  pub fits : PlayerRecordFits j
+  pub taken : (mid : Option (List ℕ)) × Consumes input mid front × TookEvent mid left
+  pub samples : List ℤ
+  pub heard : IsHeard seed (items_of j.events) samples
+  pub given : Appends before now (sample_octets samples)
+
+-- the same of events behind a head that was read
+abbrev pub StopsBehind : List ℕ → RenderEnd → Heading → Option (List ℕ) → Option (List ℕ) → Option (List ℕ) → Option (List ℕ) → Type 0
+StopsBehind seed (Done tally) h input left before now = Unit {0}
+StopsBehind seed (Refused f) h input left before now = (j : PlayerRecord) × (j.head ≡ h) × StopsShort seed (flat_map play_event_text j.events) input left before now j
+StopsBehind seed ReadFault h input left before now = (j : PlayerRecord) × (j.head ≡ h) × StopsShort seed (flat_map play_event_text j.events) input left before now j
+StopsBehind seed WriteFault h input left before now = (j : PlayerRecord) × (last : PlayEvent) × (j.head ≡ h) × BreaksOff seed (flat_map play_event_text j.events) input left before now j last
+
+-- nothing was given, and no more than a head's octets were taken; or the reading stopped behind some events
+abbrev pub StopsReading : List ℕ → Option (List ℕ) → Option (List ℕ) → Option (List ℕ) → Option (List ℕ) → Type 0
+StopsReading seed input left before now = (Keeps before now × TookHead input left) ⊎ ((j : PlayerRecord) × StopsShort seed (player_front j) input left before now j)
+
+-- Where the journal has a fault or a read failed, all events that were read were given; where a give failed, all but the last, and a front of that.
+abbrev pub Stops : List ℕ → RenderEnd → Option (List ℕ) → Option (List ℕ) → Option (List ℕ) → Option (List ℕ) → Type 0
+Stops seed (Done tally) input left before now = Unit {0}
+Stops seed (Refused f) input left before now = StopsReading seed input left before now
+Stops seed ReadFault input left before now = StopsReading seed input left before now
+Stops seed WriteFault input left before now = (j : PlayerRecord) × (last : PlayEvent) × BreaksOff seed (player_front j) input left before now j last

@@ -1,5 +1,5 @@
 // Scripts from random words.
-ghost use Rattle.std.specs.Prelude.{◌≡◌, ◌≤◌, ◌<◌, ◌+◌, ◌^◌, ◌++◌, Ok};
+ghost use Rattle.std.specs.Prelude.{◌≡◌, ◌≤◌, ◌<◌, ◌+◌, ◌^◌, ◌++◌, Ok, OnErr};
 ghost use Rattle.gate_base.specs.Faults.{HasCause, Rose};
 ghost use Rattle.gate_io.specs.Flow.{Gives};
 ghost use Rattle.recorder.specs.Script.{FileFits, event_text};
@@ -43,7 +43,7 @@ fn give_round<O: Sink>(round: &Round, sink: &mut O) -> Result<(), Failed>
 /// Gives the script of the generator, and runs it over the playout machine: for each of `count` rounds, 1 to 1000000,
 /// a File of one of `filers` filers, 1 to 64, and a Tick. Its words are those of ChaCha8 with the seed as key.
 ///
-/// Memory is wanted before anything is given. A give that fails ends it, and what was given stays.
+/// Memory is wanted before anything is given, and where there is none the sink is as it was. A give that fails ends it, and what was given stays.
 pub fn make_script<O: Sink>(
     alloc: Global,
     seed: u64,
@@ -54,6 +54,7 @@ pub fn make_script<O: Sink>(
     requires rounds { (1 ≤ count) × (count ≤ 1000000) }
     requires filers { (1 ≤ filers) × (filers ≤ 64) }
     ensures makes { Makes seed count filers (O.given sink.old) (O.given sink.new) result }
+    ensures memory { OnErr result (sink.new ≡ sink.old) }
     ensures later { O.faults sink.old ≤ O.faults sink.new }
     ensures write { result ≡ Ok Made.WriteFault → Rose (O.faults sink.old) (O.faults sink.new) }
     ensures kin { O.kin sink.old sink.new }

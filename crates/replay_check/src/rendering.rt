@@ -10,7 +10,7 @@ ghost use Rattle.recorder.specs.Play.{play_event_text};
 ghost use Rattle.recorder.specs.Reader.{headed_play};
 ghost use Rattle.recorder.specs.Tallies.{play_tally};
 ghost use Rattle.substitution.specs.Heard.{Voices, sample_octets};
-ghost use Rattle.replay_check.specs.Render.{Completes, Played, Renders, event_items};
+ghost use Rattle.replay_check.specs.Render.{Completes, Played, Renders, Stops, StopsBehind, event_items};
 
 use byteorder::{ByteOrder, LittleEndian};
 use frame_codec::Item;
@@ -92,6 +92,7 @@ fn play_events<I: Source, O: Sink>(
     requires heading { IsHeading head.now }
     requires read { reader.old ≡ headed_play (Ok head.now) }
     ensures played { (j : PlayerRecord) × (samples : List ℤ) × (j.head ≡ head.now) × Played seed (flat_map play_event_text j.events) result (I.left journal.old) (O.given pcm.old) (O.given pcm.new) j samples }
+    ensures stops { StopsBehind seed result head.now (I.left journal.old) (I.left journal.new) (O.given pcm.old) (O.given pcm.new) }
     ensures later { (I.faults journal.old ≤ I.faults journal.new) × (O.faults pcm.old ≤ O.faults pcm.new) }
     ensures read { result ≡ RenderEnd.ReadFault → Rose (I.faults journal.old) (I.faults journal.new) }
     ensures write { result ≡ RenderEnd.WriteFault → Rose (O.faults pcm.old) (O.faults pcm.new) }
@@ -116,9 +117,11 @@ fn play_events<I: Source, O: Sink>(
 /// Plays a player's journal by a voice of this seed: the speech is 320 octets for each beat of 20 ms, which are 160
 /// samples of 16 bits at 8 kHz, the low octet first. An Idle is silent, and a Base plays nothing.
 ///
-/// It takes no memory. A fault ends it there, and what was given stays.
+/// It takes no memory. A fault ends it there, and what was given stays: the speech of all events that were read, and
+/// where a give failed that of all but the last, and a front of that.
 pub fn render<I: Source, O: Sink>(seed: [u8; 32], journal: &mut I, pcm: &mut O) -> RenderEnd
     ensures renders { Renders seed result (I.left journal.old) (O.given pcm.old) (O.given pcm.new) }
+    ensures stops { Stops seed result (I.left journal.old) (I.left journal.new) (O.given pcm.old) (O.given pcm.new) }
     ensures later { (I.faults journal.old ≤ I.faults journal.new) × (O.faults pcm.old ≤ O.faults pcm.new) }
     ensures read { result ≡ RenderEnd.ReadFault → Rose (I.faults journal.old) (I.faults journal.new) }
     ensures write { result ≡ RenderEnd.WriteFault → Rose (O.faults pcm.old) (O.faults pcm.new) }

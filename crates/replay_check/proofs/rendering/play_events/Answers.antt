@@ -2,7 +2,7 @@ use Rattle.std.proofs.Common.{◌≡◌, ◌+◌, [], ◌∷◌, ◌++◌, refl,
 use Rattle.std.proofs.KnownBytes.{Appends-nil, Consumes-nil}
 use Rattle.recorder.specs.Reader.{PlayProgress}
 use Rattle.replay_check.specs.Render.{items_of}
-use Rattle.replay_check.proofs.Playing.{journal, playing-more, playing-broken, playing-done, playing-refused, playing-stopped}
+use Rattle.replay_check.proofs.Playing.{journal, playing-more, playing-broken, playing-done, playing-refused, playing-stopped, playing-breaks, playing-short}
 use Rattle.replay_check.proofs.rendering.play_events.Goals as goal
 
 pub events-init : goal.events-init
@@ -104,3 +104,32 @@ pub returns-in-Err-ReadFailed-clause-played : goal.returns-in-Err-ReadFailed-cla
 returns-in-Err-ReadFailed-clause-played g c =
     let p = c.events.invariant.playing in
     (journal c.args.head.now p.0, p.1, refl, playing-stopped c.args.seed c.args.head.now c.events.reader c.events.voice c.events.tally _ _ _ _ p.0 p.1 p.2)
+
+pub returns-in-Err-clause-stops : goal.returns-in-Err-clause-stops
+returns-in-Err-clause-stops g c =
+    let p = c.events.invariant.playing in
+    let s = p.2 in
+    let e = c.in-Ok-Some.event in
+    let all = rw c.in-Ok-Some.field-0-is at c.in-Ok-Some.ensures in
+    let fits = all.fits s.over in
+    let left = g.I.Source.left in
+    let given = g.O.Sink.given in
+    let done = c.in-Err.ensures.played in (
+      journal c.args.head.now p.0,
+      e,
+      refl,
+      playing-breaks c.args.seed c.args.head.now c.events.reader c.next.new.self c.events.voice c.play_event.new.voice c.events.tally c.play_event.new.tally (left c.args.journal.now) (left c.events.journal) (left c.next.new.source)
+          (given c.args.pcm.now) (given c.events.pcm) (given c.play_event.new.pcm) p.0 p.1 done.0 e s fits.0 fits.1 (all.text s.over) (done.1 c.args.seed (items_of p.0) p.1 s.voices) done.2,
+    )
+
+pub returns-in-Err-Fault-clause-stops : goal.returns-in-Err-Fault-clause-stops
+returns-in-Err-Fault-clause-stops g c =
+    let p = c.events.invariant.playing in
+    let all = rw c.in-Err-Fault.field-0-is at c.in-Err-Fault.ensures in
+    (journal c.args.head.now p.0, refl, playing-short c.args.seed c.args.head.now c.events.reader c.events.voice c.events.tally _ _ _ _ p.0 p.1 p.2 (g.I.Source.left c.next.new.source) all.part)
+
+pub returns-in-Err-ReadFailed-clause-stops : goal.returns-in-Err-ReadFailed-clause-stops
+returns-in-Err-ReadFailed-clause-stops g c =
+    let p = c.events.invariant.playing in
+    let all = rw c.in-Err-ReadFailed.field-0-is at c.in-Err-ReadFailed.ensures in
+    (journal c.args.head.now p.0, refl, playing-short c.args.seed c.args.head.now c.events.reader c.events.voice c.events.tally _ _ _ _ p.0 p.1 p.2 (g.I.Source.left c.next.new.source) all.part)

@@ -3,7 +3,7 @@ use Rattle.std.proofs.KnownBytes.{Keeps-refl}
 use Rattle.recorder.proofs.PlayerUnique.{not_both}
 use Rattle.replay_check.specs.Render.{Renders}
 use Rattle.replay_check.specs.declared.rendering.RenderEnd.TheVariants.{Refused}
-use Rattle.replay_check.proofs.Rendered.{with-head, completes}
+use Rattle.replay_check.proofs.Rendered.{with-head, completes, stops-behind}
 use Rattle.replay_check.proofs.rendering.render.Goals as goal
 
 pub returns-in-Ok-clause-renders : goal.returns-in-Ok-clause-renders
@@ -27,3 +27,18 @@ returns-in-Err-Fault-clause-complete g c = λ octets j told whole f is.
     let refused : Renders c.args.seed (Refused c.in-Err-Fault.fault) (g.I.Source.left c.args.journal.now) given given = inl (all.fault c.new-reader.ensures, Keeps-refl given) in
     let same : Refused c.in-Err-Fault.fault ≡ Refused f = rw c.in-Err-Fault.fault-is at is in
     completes c.args.seed (Refused c.in-Err-Fault.fault) (g.I.Source.left c.args.journal.now) given given not_both refused octets j told whole f same
+
+pub returns-in-Ok-clause-stops : goal.returns-in-Ok-clause-stops
+returns-in-Ok-clause-stops g c =
+    stops-behind c.args.seed c.in-Ok.head c.play_events.result (g.I.Source.left c.args.journal.now) (g.I.Source.left c.head.new.source) (g.I.Source.left c.play_events.new.journal) (g.O.Sink.given c.args.pcm.now)
+    (g.O.Sink.given c.play_events.new.pcm) (c.in-Ok.ensures.text c.new-reader.ensures) c.play_events.ensures.stops
+
+pub returns-in-Err-Fault-clause-stops : goal.returns-in-Err-Fault-clause-stops
+returns-in-Err-Fault-clause-stops g c =
+    let all = rw c.in-Err-Fault.field-0-is at c.in-Err-Fault.ensures in
+    inl (Keeps-refl (g.O.Sink.given c.args.pcm.now), all.part)
+
+pub returns-in-Err-ReadFailed-clause-stops : goal.returns-in-Err-ReadFailed-clause-stops
+returns-in-Err-ReadFailed-clause-stops g c =
+    let all = rw c.in-Err-ReadFailed.field-0-is at c.in-Err-ReadFailed.ensures in
+    inl (Keeps-refl (g.O.Sink.given c.args.pcm.now), all.part)
