@@ -11,7 +11,6 @@ mod interleaving;
 mod lists;
 mod pool_steps;
 mod ring_laws;
-mod tests;
 mod views;
 mod words;
 
