@@ -1,28 +1,30 @@
 -- A player's journal gives back what is heard of its calls.
-use Rattle.std.proofs.Common.{◌≡◌, ℕ, ◌≤◌, List, [], ◌∷◌, ◌++◌, length, drop, Option, Some, sym, ap, subst, ◌∙◌, append-nil, inl, inr, arith, true}
-use Rattle.std.specs.Prelude.{ℤ}
+use Rattle.std.proofs.Common.{◌≡◌, ℕ, ◌≤◌, List, [], ◌∷◌, ◌++◌, length, take, drop, Option, Some, None, refl, sym, ap, subst, ◌∙◌, append-nil, append_assoc, inl, inr, arith, true}
+use Rattle.std.specs.Prelude.{ℤ, ◌⊎◌}
 use Rattle.std.specs.List.{flat_map, AllByRecursion}
-use Rattle.std.specs.Io.KnownBytes.{Appends}
+use Rattle.std.specs.Io.KnownBytes.{Appends, Consumes, Keeps}
+use Rattle.std.proofs.lemmas.List.Concat.{flat_map-append}
 use Rattle.frame_codec.specs.declared.item.Item.{Item}
 use Rattle.playout.specs.declared.call.Call.{Call}
+use Rattle.recorder.specs.declared.events.PlayEvent.{PlayEvent}
 use Rattle.recorder.specs.declared.fault.RecordFault.{RecordFault}
 use Rattle.recorder.specs.declared.tally.PlayTally.{PlayTally}
 use Rattle.recorder.specs.Files.{end_mark, event_limit}
 use Rattle.recorder.specs.Heads.{Heading, IsHeading, head_text, play_magic}
 use Rattle.recorder.specs.Journals.{IsPlayerJournal, PlayerRecord, player_front, player_text}
-use Rattle.recorder.specs.Play.{AllPlayFit, play_event_text, play_text}
+use Rattle.recorder.specs.Play.{AllPlayFit, call_text, play_event_text, play_front, play_text}
 use Rattle.recorder.specs.Tallies.{play_tally}
 use Rattle.recorder.proofs.PlayerUnique.{not_both}
 use Rattle.substitution.specs.Heard.{IsHeard, sample_octets}
 use Rattle.replay_check.specs.declared.rendering.RenderEnd.{RenderEnd}
 use Rattle.replay_check.specs.declared.rendering.RenderEnd.TheVariants.{Done, Refused, ReadFault, WriteFault}
-use Rattle.replay_check.specs.Render.{Played, Renders, items_of}
+use Rattle.replay_check.specs.Render.{BreaksOff, Played, Renders, Stops, StopsShort, TookEvent, TookHead, items_of}
 use Rattle.player.specs.Beats.{CanBeTold}
 use Rattle.player.specs.Whole.{AreBeats, items_in}
-use Rattle.heard_laws.specs.Rendered.{GivesBack, JournalRenders, RendersTo}
+use Rattle.heard_laws.specs.Rendered.{GivesAllButLast, GivesAllRead, GivesBack, JournalRenders, RendersTo}
 use Rattle.heard_laws.proofs.OneHeard.{one_heard}
-use Rattle.heard_laws.proofs.OneJournal.{one_events}
-use Rattle.heard_laws.proofs.Telling.{events_in, few-all, fit-all, items-all, text-all}
+use Rattle.heard_laws.proofs.OneJournal.{front_events, one_events}
+use Rattle.heard_laws.proofs.Telling.{calls_before, events_in, few-all, fit-all, items-all, only_call, text-all, told_back, told_front}
 
 module _ (seed : List ℕ) (h : Heading) (made : ℕ) (calls : List Call) (samples : List ℤ) (head : IsHeading h) (beats : AreBeats made calls) (told : AllByRecursion CanBeTold calls)
     (few : length calls ≤ event_limit) (heard : IsHeard seed (items_in calls) samples) where
@@ -69,8 +71,86 @@ module _ (seed : List ℕ) (h : Heading) (made : ℕ) (calls : List Call) (sampl
   rendered ReadFault before now r = tt
   rendered WriteFault before now r = tt
 
+  -- ---- where it stopped
+
+  -- one event more
+  flat-more : (es : List PlayEvent) (e : PlayEvent) → flat_map play_event_text (es ++ e ∷ []) ≡ flat_map play_event_text es ++ play_event_text e
+  flat-more es e = flat_map-append play_event_text es (e ∷ []) ∙ ap (λ (l : List ℕ). flat_map play_event_text es ++ l) (append-nil (play_event_text e))
+
+  -- events whose octets were read are the first of the calls'
+  are-first : (head' : Heading) (es : List PlayEvent) (y : List ℕ) → AllPlayFit true es → play_text h calls ≡ (head_text play_magic head' ++ flat_map play_event_text es) ++ y → (more : List PlayEvent) × (events_in calls ≡ es ++ more)
+  are-first head' es y fit read =
+      let one : drop 12 (play_text h calls) ≡ flat_map play_event_text (events_in calls) ++ end_mark ∷ [] = ap (drop 12) text in
+      let two : drop 12 (play_text h calls) ≡ flat_map play_event_text es ++ y = ap (drop 12) read in
+      front_events true es (events_in calls) y [] fit fits (sym two ∙ one)
+
+  -- and so are their octets
+  octets-are : (head' : Heading) (es : List PlayEvent) (first : List Call) (y : List ℕ) → events_in first ≡ es → play_text h calls ≡ (head_text play_magic head' ++ flat_map play_event_text es) ++ y → play_text h calls ≡ play_front h first ++ y
+  octets-are head' es first y same read =
+      let heads : head_text play_magic head' ≡ head_text play_magic h = sym (ap (take 12) read) in
+      let events : flat_map play_event_text es ≡ flat_map call_text first = ap (flat_map play_event_text) (sym same) ∙ text-all first in
+      read ∙ (λ i. (heads i ++ events i) ++ y)
+
+  when-broken : (left before now : Option (List ℕ)) (j : PlayerRecord) (last : PlayEvent) → BreaksOff seed (player_front j) (Some (play_text h calls)) left before now j last → GivesAllButLast seed h calls left before now
+  when-broken None before now j last b = absurd b.taken
+  when-broken (Some y) before now j last b =
+      let es = j.events ++ last ∷ [] in
+      let whole : player_front j ++ play_event_text last ≡ head_text play_magic j.head ++ flat_map play_event_text es =
+      append_assoc (head_text play_magic j.head) (flat_map play_event_text j.events) (play_event_text last) ∙ ap (λ (l : List ℕ). head_text play_magic j.head ++ l) (sym (flat-more j.events last)) in
+      let read : play_text h calls ≡ (head_text play_magic j.head ++ flat_map play_event_text es) ++ y = b.taken ∙ ap (λ (l : List ℕ). l ++ y) whole in
+      let front = are-first j.head es y b.fits.events read in
+      let all = calls_before calls es front.0 told front.1 in
+      let told' : AllByRecursion CanBeTold all.0 = told_front all.0 all.1 (subst (AllByRecursion CanBeTold) all.2 told) in
+      let inner = calls_before all.0 j.events (last ∷ []) told' all.3 in
+      let only = only_call inner.1 last (told_back inner.0 inner.1 (subst (AllByRecursion CanBeTold) inner.2 told')) inner.4 in
+      let parts : all.0 ≡ inner.0 ++ only.0 ∷ [] = inner.2 ∙ ap (λ (l : List Call). inner.0 ++ l) only.1 in
+      let before-items : items_of j.events ≡ items_in inner.0 = ap items_of (sym inner.3) ∙ items-all inner.0 in
+      let all-items : items_of es ≡ items_in (inner.0 ++ only.0 ∷ []) = ap items_of (sym all.3) ∙ items-all all.0 ∙ ap items_in parts in
+      record {
+        first = inner.0;
+        last = only.0;
+        more = all.1;
+        all = all.2 ∙ ap (λ (l : List Call). l ++ all.1) parts ∙ append_assoc inner.0 (only.0 ∷ []) all.1;
+        read = octets-are j.head es (inner.0 ++ only.0 ∷ []) y (ap events_in (sym parts) ∙ all.3) read;
+        samples = b.samples;
+        speech = b.speech;
+        heard = subst (λ (l : List Item). IsHeard seed l b.samples) before-items b.heard;
+        plays = subst (λ (l : List Item). IsHeard seed l (b.samples ++ b.speech)) all-items b.plays;
+        given = b.given;
+      }
+
+  when-short : (left before now mid : Option (List ℕ)) (j : PlayerRecord) (s : StopsShort seed (player_front j) (Some (play_text h calls)) left before now j) → s.taken.0 ≡ mid → GivesAllRead seed h calls left before now
+  when-short left before now None j s is = absurd (subst (λ (o : Option (List ℕ)). Consumes (Some (play_text h calls)) o (player_front j)) is s.taken.1)
+  when-short left before now (Some y) j s is =
+      let read : play_text h calls ≡ player_front j ++ y = subst (λ (o : Option (List ℕ)). Consumes (Some (play_text h calls)) o (player_front j)) is s.taken.1 in
+      let lost : TookEvent (Some y) left = subst (λ (o : Option (List ℕ)). TookEvent o left) is s.taken.2 in
+      let front = are-first j.head j.events y s.fits.events read in
+      let all = calls_before calls j.events front.0 told front.1 in
+      let items : items_of j.events ≡ items_in all.0 = ap items_of (sym all.3) ∙ items-all all.0 in
+      record {
+        first = all.0;
+        more = all.1;
+        all = all.2;
+        read = (Some y, octets-are j.head j.events all.0 y all.3 read, lost);
+        samples = s.samples;
+        heard = subst (λ (l : List Item). IsHeard seed l s.samples) items s.heard;
+        given = s.given;
+      }
+
+  stopped : (left before now : Option (List ℕ)) → Stops seed ReadFault (Some (play_text h calls)) left before now
+      → (Keeps before now × TookHead (Some (play_text h calls)) left) ⊎ GivesAllRead seed h calls left before now
+  stopped left before now (inl none) = inl none
+  stopped left before now (inr (j, s)) = inr (when-short left before now s.taken.0 j s refl)
+
   pub gives-back : GivesBack seed h calls samples
-  gives-back = record { says = says; journal = journal; plays = items-all calls; rendered = rendered }
+  gives-back = record {
+    says = says;
+    journal = journal;
+    plays = items-all calls;
+    rendered = rendered;
+    broken = λ left before now s. when-broken left before now s.0 s.1 s.2;
+    stopped = stopped;
+  }
 
 pub journal_gives_back : JournalRenders
 journal_gives_back seed h made calls samples head beats told few heard = gives-back seed h made calls samples head beats told few heard

@@ -60,3 +60,18 @@ one_events opening (e ∷ es) (d ∷ ds) x y fits fits' same =
     let others : AllPlayFit (may_open e) ds = subst (λ (k : PlayEvent). AllPlayFit (may_open k) ds) (sym first) fits'.1 in
     let rest : es ≡ ds = one_events (may_open e) es ds x y fits.1 others both.1 in
     λ i. first i ∷ rest i
+
+-- events that stand in front of a journal's octets are the first of its events
+pub front_events : (opening : Bool) (es ds : List PlayEvent) (x y : List ℕ) → AllPlayFit opening es → AllPlayFit opening ds
+    → flat_map play_event_text es ++ x ≡ flat_map play_event_text ds ++ end_mark ∷ y → (more : List PlayEvent) × (ds ≡ es ++ more)
+front_events opening [] ds x y fits fits' same = (ds, refl)
+front_events opening (e ∷ es) [] x y fits fits' same =
+    absurd (no_mark opening e (flat_map play_event_text es ++ x) y fits.0 (sym (append_assoc (play_event_text e) (flat_map play_event_text es) x) ∙ same))
+front_events opening (e ∷ es) (d ∷ ds) x y fits fits' same =
+    let regrouped : play_event_text e ++ (flat_map play_event_text es ++ x) ≡ play_event_text d ++ (flat_map play_event_text ds ++ end_mark ∷ y) =
+    sym (append_assoc (play_event_text e) (flat_map play_event_text es) x) ∙ same ∙ append_assoc (play_event_text d) (flat_map play_event_text ds) (end_mark ∷ y) in
+    let both = one_event opening e d (flat_map play_event_text es ++ x) (flat_map play_event_text ds ++ end_mark ∷ y) fits.0 fits'.0 regrouped in
+    let first : d ≡ e = sym both.0 in
+    let others : AllPlayFit (may_open e) ds = subst (λ (k : PlayEvent). AllPlayFit (may_open k) ds) first fits'.1 in
+    let rest = front_events (may_open e) es ds x y fits.1 others both.1 in
+    (rest.0, λ i. first i ∷ rest.1 i)

@@ -1,5 +1,5 @@
 -- The events by which a journal tells the calls of a player.
-use Rattle.std.proofs.Common.{◌≡◌, ℕ, zero, suc, ◌≤◌, Bool, true, false, List, [], ◌∷◌, ◌++◌, length, map, replicate, Some, None, refl, sym, subst, ◌∙◌, append-nil, length-append, inl, inr, arith}
+use Rattle.std.proofs.Common.{◌≡◌, ℕ, zero, suc, ◌≤◌, Bool, true, false, List, [], ◌∷◌, ◌++◌, length, map, replicate, Some, None, refl, sym, ap, subst, ◌∙◌, append-nil, length-append, inl, inr, arith}
 use Rattle.std.specs.List.{flat_map, AllByRecursion}
 use Rattle.std.proofs.lemmas.List.Concat.{flat_map-append}
 use Rattle.frame_codec.specs.declared.item.Item.{Item}
@@ -104,3 +104,51 @@ fit-all made calls (inl is) told =
     subst (λ (l : List Call). AllPlayFit true (events_in l)) whole (fit-idle made [] tt)
 fit-all made calls (inr (idle, base, played, some, count, is)) told =
     subst (λ (l : List Call). AllPlayFit true (events_in l)) (sym is) (fit-opened idle base played (subst (λ (l : List Call). AllByRecursion CanBeTold l) is told))
+
+-- ---- the calls that stand before an event
+
+-- each call has one event
+event_of : (c : Call) → CanBeTold c → (e : PlayEvent) × (events_of c ≡ e ∷ [])
+event_of (FileCall n f reply) told = absurd told
+event_of (SourceCall x held) told = absurd told
+event_of (BaseCall x held) told = absurd told
+event_of (PeekCall None) told = (Idle, refl)
+event_of (PeekCall (Some base)) told = (Base base, refl)
+event_of (TickCall item) told = (event_of_item item, refl)
+
+heads : (d e : PlayEvent) (ds es : List PlayEvent) → d ∷ ds ≡ e ∷ es → (d ≡ e) × (ds ≡ es)
+heads d e ds es same = (cc, cc)
+
+pub told_front : (xs ys : List Call) → AllByRecursion CanBeTold (xs ++ ys) → AllByRecursion CanBeTold xs
+told_front [] ys told = tt
+told_front (x ∷ xs) ys told = (told.0, told_front xs ys told.1)
+
+pub told_back : (xs ys : List Call) → AllByRecursion CanBeTold (xs ++ ys) → AllByRecursion CanBeTold ys
+told_back [] ys told = told
+told_back (x ∷ xs) ys told = told_back xs ys told.1
+
+pub calls_before : (calls : List Call) (es more : List PlayEvent) → AllByRecursion CanBeTold calls → events_in calls ≡ es ++ more
+    → (first rest : List Call) × (calls ≡ first ++ rest) × (events_in first ≡ es) × (events_in rest ≡ more)
+calls_before calls [] more told same = ([], calls, refl, refl, same)
+calls_before [] (e ∷ es) more told same = absurd cc
+calls_before (c ∷ calls) (e ∷ es) more told same =
+    let one = event_of c told.0 in
+    let both = heads one.0 e (events_in calls) (es ++ more) (ap (λ (l : List PlayEvent). l ++ events_in calls) (sym one.1) ∙ same) in
+    let rest = calls_before calls es more told.1 both.1 in (
+      c ∷ rest.0,
+      rest.1,
+      ap (λ (l : List Call). c ∷ l) rest.2,
+      ap (λ (l : List PlayEvent). l ++ events_in rest.0) one.1 ∙ (λ i. both.0 i ∷ rest.3 i),
+      rest.4,
+    )
+
+-- calls with one event are one
+pub only_call : (calls : List Call) (e : PlayEvent) → AllByRecursion CanBeTold calls → events_in calls ≡ e ∷ [] → (c : Call) × (calls ≡ c ∷ [])
+only_call [] e told same = absurd cc
+only_call (c ∷ []) e told same = (c, refl)
+only_call (c ∷ d ∷ calls) e told same =
+    let one = event_of c told.0 in
+    let two = event_of d told.1.0 in
+    let both = heads one.0 e (events_in (d ∷ calls)) [] (ap (λ (l : List PlayEvent). l ++ events_in (d ∷ calls)) (sym one.1) ∙ same) in
+    let none : two.0 ∷ events_in calls ≡ [] = ap (λ (l : List PlayEvent). l ++ events_in calls) (sym two.1) ∙ both.1 in
+    absurd cc

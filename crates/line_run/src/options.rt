@@ -7,7 +7,7 @@ pub struct LineOptions {
     pub g: u32,
     /// The delay in frames of 20 ms, below the number of slots.
     pub delay: u32,
-    /// The seed of the noise that the player's voice makes.
+    /// The key of the random words that choose the grid positions of covered frames.
     pub seed: [u8; 32],
     /// How many beats of 20 ms the player makes at most, 1 to 16000000.
     pub ticks: u64,
