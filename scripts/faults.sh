@@ -115,8 +115,9 @@ fi
 
 if has python3; then
   # A peer that is gone when its reports come, and a reply address where nobody is bound: the errors that come back (ICMP) end nobody.
-  python3 - <<'PY' &
-import socket, struct, time
+  python3 - "$work/peers" <<'PY' &
+import socket, struct, sys, time
+open(sys.argv[1], "w").close()
 for n in range(120):
     out = socket.socket(socket.AF_INET, socket.SOCK_DGRAM)
     for m in range(2):
@@ -124,6 +125,7 @@ for n in range(120):
     out.close()
     time.sleep(0.02)
 PY
+  until [ -e "$work/peers" ]; do sleep 0.05; done
   serve "peers that answer with errors" 0 --report 1 $reply $files 127.0.0.1:23001
   wait
   legal 1
