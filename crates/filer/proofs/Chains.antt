@@ -1,7 +1,7 @@
 -- Runs of calls on a side.
 use Rattle.std.proofs.Common.{List, [], ◌∷◌, ◌++◌, refl, subst, sym}
-use Rattle.play_machine.specs.declared.call.Call.{Call}
-use Rattle.play_machine.specs.History.{Chained}
+use Rattle.playout.specs.declared.call.Call.{Call}
+use Rattle.playout.specs.History.{Chained}
 
 pub chained-append : {S : Type 0} (did : S → Call → S → Type 0) (a b c : S) (xs ys : List Call) → Chained did a xs b → Chained did b ys c → Chained did a (xs ++ ys) c
 chained-append {S} did a b c [] ys p q = subst (λ (s : S). Chained did s ys c) (sym p) q

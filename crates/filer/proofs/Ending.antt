@@ -4,7 +4,7 @@ use Rattle.std.specs.Io.KnownBytes.{Appends}
 use Rattle.std.proofs.KnownBytes.{Appends-trans}
 use Rattle.gate_base.specs.Faults.{HasCause, Rose}
 use Rattle.gate_io.specs.Flow.{AppendsPart, Gives}
-use Rattle.play_machine.specs.declared.call.Call.{Call}
+use Rattle.playout.specs.declared.call.Call.{Call}
 use Rattle.recorder.specs.Files.{end_mark}
 use Rattle.filer.specs.declared.outcome.Outcome.{Outcome}
 use Rattle.filer.specs.declared.run.FilerEnd.TheVariants as ended

@@ -1,10 +1,10 @@
 -- The frames of a packet, one more at a time.
 use Rattle.std.proofs.Common.{◌≡◌, ℕ, zero, suc, ◌+◌, ◌-◌, ◌^◌, ◌<◌, ◌≤◌, ◌||◌, Bool, true, false, List, [], ◌∷◌, ◌++◌, length, refl, sym, ap, subst, ◌∙◌, arith, length-append}
-use Rattle.play_machine.specs.declared.reply.FileReply.{FileReply}
-use Rattle.play_machine.specs.declared.reply.FileReply.TheVariants.{Accepted, Duplicate, Late, Beyond}
-use Rattle.play_machine.specs.declared.call.Call.{Call}
-use Rattle.play_machine.specs.declared.call.Call.TheVariants.{FileCall}
-use Rattle.play_machine.specs.History.{Chained, ReplyFits}
+use Rattle.playout.specs.declared.reply.FileReply.{FileReply}
+use Rattle.playout.specs.declared.reply.FileReply.TheVariants.{Accepted, Duplicate, Late, Beyond}
+use Rattle.playout.specs.declared.call.Call.{Call}
+use Rattle.playout.specs.declared.call.Call.TheVariants.{FileCall}
+use Rattle.playout.specs.History.{Chained, ReplyFits}
 use Rattle.filer.proofs.Chains.{chained-append, chained-one}
 use Rattle.rtp_codec.specs.Packets.{frame_at}
 use Rattle.recorder.specs.Tallies.{is_accepted}

@@ -1,6 +1,6 @@
 -- One datagram more.
 use Rattle.std.proofs.Common.{◌≡◌, ℕ, List, [], ◌∷◌, ◌++◌, refl, sym, ap, ◌∙◌, append_assoc, append-nil, subst}
-use Rattle.play_machine.specs.declared.call.Call.{Call}
+use Rattle.playout.specs.declared.call.Call.{Call}
 use Rattle.filer.specs.declared.outcome.Outcome.{Outcome}
 use Rattle.filer.specs.Takes.{Known, IsTaken, calls_of}
 use Rattle.filer.specs.Runs.{AreTaken}

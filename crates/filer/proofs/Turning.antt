@@ -3,8 +3,8 @@ use Rattle.std.proofs.Common.{◌≡◌, ℕ, ◌+◌, List, [], ◌∷◌, ◌+
 use Rattle.std.specs.Io.KnownBytes.{Appends}
 use Rattle.std.proofs.KnownBytes.{Appends-trans}
 use Rattle.gate_io.specs.Links.{LinkLog, GoesTo, Sends, with_sent, with_taken}
-use Rattle.play_machine.specs.declared.call.Call.{Call}
-use Rattle.play_machine.specs.History.{Chained}
+use Rattle.playout.specs.declared.call.Call.{Call}
+use Rattle.playout.specs.History.{Chained}
 use Rattle.filer.specs.declared.outcome.Outcome.{Outcome}
 use Rattle.filer.specs.declared.turn.Turn.{Turn}
 use Rattle.filer.specs.declared.turn.Turn.TheVariants as turn

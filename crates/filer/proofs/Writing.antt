@@ -4,8 +4,8 @@ use Rattle.std.specs.Io.KnownBytes.{Appends}
 use Rattle.std.proofs.KnownBytes.{Appends-nil, Appends-trans}
 use Rattle.gate_io.specs.Flow.{AppendsPart}
 use Rattle.gate_io.specs.FlowLaws.{AppendsPart-after, AppendsPart-longer}
-use Rattle.play_machine.specs.declared.reply.FileReply.{FileReply}
-use Rattle.play_machine.specs.History.{ReplyFits}
+use Rattle.playout.specs.declared.reply.FileReply.{FileReply}
+use Rattle.playout.specs.History.{ReplyFits}
 use Rattle.recorder.specs.declared.events.FilerEvent.TheVariants as event
 use Rattle.recorder.specs.Filing.{filer_event_text}
 use Rattle.rtp_codec.specs.Packets.{frame_at}

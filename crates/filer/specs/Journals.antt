@@ -1,7 +1,7 @@
 -- What a filer journals of a datagram: the calls that said its source and its base, and then one event a frame, or the one other event.
-use Rattle.std.specs.Prelude.{ℕ, suc, ◌^◌, ◌<◌, Bool, true, false, List, [], ◌∷◌, ◌++◌, Option, Some, None}
-use Rattle.play_machine.specs.declared.reply.FileReply.{FileReply}
-use Rattle.play_machine.specs.History.{ReplyFits}
+use Rattle.std.specs.Prelude.{ℕ, suc, ◌^◌, ◌<◌, ◌≤◌, Bool, true, false, List, [], ◌∷◌, ◌++◌, length, Option, Some, None}
+use Rattle.playout.specs.declared.reply.FileReply.{FileReply}
+use Rattle.playout.specs.History.{ReplyFits}
 use Rattle.recorder.specs.declared.events.Asked2.{Asked2}
 use Rattle.recorder.specs.declared.events.FilerEvent.{FilerEvent}
 use Rattle.recorder.specs.declared.events.FilerEvent.TheVariants as event
@@ -122,7 +122,7 @@ EndFits (end.RtcpRefused f) = rtcp_detail f < 2 ^ 16
 EndFits (end.RtpRefused f) = Unit {0}
 EndFits end.Empty = Unit {0}
 EndFits (end.Stranger ssrc held) = Unit {0}
-EndFits (end.Filed n replies) = (n < 2 ^ 34) × RepliesFit n replies
+EndFits (end.Filed n replies) = (n < 2 ^ 34) × RepliesFit n replies × (1 ≤ length replies) × (length replies ≤ 10)
 
 abbrev pub is_filed : OutcomeEnd → Bool
 is_filed end.Rtcp = false

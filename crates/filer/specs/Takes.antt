@@ -1,8 +1,8 @@
 -- What a filer makes of one datagram: its calls, its outcome and what it knows afterwards, given the replies.
 use Rattle.std.specs.Prelude.{◌≡◌, ℕ, zero, suc, ◌+◌, ◌/◌, ◌==◌, ◌&&◌, ◌||◌, Bool, false, List, [], ◌∷◌, ◌++◌, length, slice_index, nat_le, fold, Option, Some, None, if◌then◌else◌}
-use Rattle.play_machine.specs.declared.reply.FileReply.{FileReply}
-use Rattle.play_machine.specs.declared.call.Call.{Call}
-use Rattle.play_machine.specs.declared.call.Call.TheVariants.{FileCall, SourceCall, BaseCall}
+use Rattle.playout.specs.declared.reply.FileReply.{FileReply}
+use Rattle.playout.specs.declared.call.Call.{Call}
+use Rattle.playout.specs.declared.call.Call.TheVariants.{FileCall, SourceCall, BaseCall}
 use Rattle.recorder.specs.declared.tally.Tally.{Tally}
 use Rattle.recorder.specs.Tallies.{capped, is_accepted, no_tally, reply_counted}
 use Rattle.rtp_codec.specs.declared.fault.RtpFault.{RtpFault}

@@ -4,8 +4,8 @@ use Rattle.std.specs.Io.KnownBytes.{Appends}
 use Rattle.gate_base.specs.Faults.{Rose}
 use Rattle.gate_io.specs.Flow.{AppendsPart}
 use Rattle.gate_io.specs.Links.{LinkLog, GoesTo}
-use Rattle.play_machine.specs.declared.call.Call.{Call}
-use Rattle.play_machine.specs.History.{Chained}
+use Rattle.playout.specs.declared.call.Call.{Call}
+use Rattle.playout.specs.History.{Chained}
 use Rattle.recorder.specs.Files.{end_mark}
 use Rattle.rtcp_stats.specs.declared.block.ReportBlock.{ReportBlock}
 use Rattle.rtcp_stats.specs.Writing.{report_octets}

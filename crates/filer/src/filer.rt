@@ -1,7 +1,7 @@
 // What one filer knows, and what it makes of a datagram.
-ghost use Rattle.std.specs.Prelude.{◌≡◌, ◌≤◌, ◌<◌, ◌^◌, ◌++◌, ◌∷◌, [], List, ℕ, Some, None, IfSome, false, true, length};
-ghost use Rattle.play_machine.specs.History.{Chained};
-ghost use Rattle.play_machine.specs.declared.call.Call.{Call};
+ghost use Rattle.std.specs.Prelude.{◌≡◌, ◌≤◌, ◌<◌, ◌/◌, ◌^◌, ◌++◌, ◌∷◌, [], List, ℕ, Some, None, IfSome, false, true, length};
+ghost use Rattle.playout.specs.History.{Chained};
+ghost use Rattle.playout.specs.declared.call.Call.{Call};
 ghost use Rattle.rtp_codec.specs.Grammar.{rtp_fault};
 ghost use Rattle.rtp_codec.specs.Packets.{packet_of};
 ghost use Rattle.rtcp_stats.specs.Compound.{rtcp_fault};
@@ -15,7 +15,7 @@ use crate::outcome::{Outcome, OutcomeEnd};
 use crate::packet::{ask_base, ask_source, file_frames};
 use crate::reporting::Reporting;
 use crate::tally::count_end;
-use play_machine::FilerSide;
+use playout::FilerSide;
 use recorder::Tally;
 use rtcp_stats::{ReportBlock, SenderInfo, read_rtcp};
 use rtp_codec::{RtpView, read_rtp};
@@ -176,6 +176,7 @@ impl Filer {
 
     /// Takes a packet with a frame.
     fn admit<S: FilerSide>(&mut self, side: &mut S, view: &RtpView<'_>, at: u32) -> Outcome
+        requires { 1 ≤ length view.now.payload / 33 }
         ensures outcome { result ≡ (admitted self.old view.now at (replies_of result)).outcome }
         ensures after { self.new ≡ (admitted self.old view.now at (replies_of result)).after }
         ensures all { HasAllFrames view.now.payload result.end }

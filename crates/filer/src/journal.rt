@@ -2,7 +2,7 @@
 ghost use Rattle.std.specs.Prelude.{◌≡◌, ◌∷◌, [], ◌<◌, ◌+◌, ◌/◌, ◌^◌, true, None, length};
 ghost use Rattle.gate_base.specs.Faults.{HasCause};
 ghost use Rattle.gate_io.specs.Flow.{Gives};
-ghost use Rattle.play_machine.specs.History.{ReplyFits};
+ghost use Rattle.playout.specs.History.{ReplyFits};
 ghost use Rattle.recorder.specs.Filing.{FilerFits, filer_event_text};
 ghost use Rattle.rtp_codec.specs.Grammar.{rtp_fault};
 ghost use Rattle.rtp_codec.specs.Packets.{packet_of};
@@ -14,7 +14,7 @@ use crate::outcome::{Asked, Outcome, OutcomeEnd};
 use crate::replies::Replies;
 use frame_codec::Frame33;
 use gate_io::{Failed, Sink};
-use play_machine::FileReply;
+use playout::FileReply;
 use recorder::{Asked2, FilerEvent, write_filer};
 use rtcp_stats::RtcpFault;
 use rtp_codec::{RtpFault, RtpView, read_rtp};

@@ -1,13 +1,13 @@
 // A packet with frames becomes calls.
 ghost use Rattle.std.specs.Prelude.{◌≡◌, ◌≤◌, ◌<◌, ◌+◌, ◌-◌, ◌/◌, ◌^◌, true, length};
-ghost use Rattle.play_machine.specs.History.{Chained};
+ghost use Rattle.playout.specs.History.{Chained};
 ghost use Rattle.recorder.specs.Tallies.{is_accepted};
 ghost use Rattle.filer.specs.Journals.{RepliesFit};
 ghost use Rattle.filer.specs.Takes.{asked, held_source, clock_now, source_calls, base_calls, file_calls, frames_of, any_accepted, told};
 
 use crate::outcome::Asked;
 use crate::replies::Replies;
-use play_machine::{FileReply, FilerSide};
+use playout::{FileReply, FilerSide};
 use rtp_codec::RtpView;
 use unwrap_ts::Unwrapper;
 
@@ -52,6 +52,7 @@ pub fn file_frames<S: FilerSide>(side: &mut S, view: &RtpView<'_>, first: u64) -
     requires { first < 2 ^ 34 }
     ensures calls { Chained S.did side.old (file_calls first (frames_of view.now.payload) result.0) side.new }
     ensures all { length result.0 ≡ length view.now.payload / 33 }
+    ensures few { length result.0 ≤ 10 }
     ensures accepted { result.1 ≡ any_accepted result.0 }
     ensures fits { RepliesFit first result.0 }
     ensures low { result.1 ≡ true → 2 ^ 32 - 16 ≤ first }

@@ -2,7 +2,7 @@
 ghost use Rattle.std.specs.Prelude.{◌≡◌, ◌<◌, ◌≤◌, ◌∷◌, ◌++◌, [], length, slice_get, Some};
 
 use arrayvec::ArrayVec;
-use play_machine::FileReply;
+use playout::FileReply;
 use std::marker::Model;
 
 /// The replies to the frames of a packet in their order, one to ten.
@@ -13,7 +13,7 @@ pub struct Replies {
 
 impl Model for Replies {
     ghost use Rattle.std.specs.Prelude.{List};
-    ghost use Rattle.play_machine.specs.declared.reply.FileReply.{FileReply};
+    ghost use Rattle.playout.specs.declared.reply.FileReply.{FileReply};
 
     ghost Value = { List FileReply };
 

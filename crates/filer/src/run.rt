@@ -7,7 +7,7 @@ ghost use Rattle.filer.specs.declared.run.FilerEnd.{FilerEnd};
 use crate::filer::Filer;
 use crate::turn::Turn;
 use gate_io::{Link, Sink};
-use play_machine::FilerSide;
+use playout::FilerSide;
 use recorder::write_end;
 use std::sync::Wait;
 

@@ -1,7 +1,7 @@
 use super::tests::{Came, came_of};
 use super::*;
 use gate_io::{LinkEntry, MemoryLink, MemorySink, Octets};
-use play_machine::{MapFiler, MapLine};
+use playout::{MapFiler, MapLine};
 use rtcp_stats::RtcpFault;
 use std::alloc::Global;
 use std::sync::Wait;
@@ -138,6 +138,56 @@ fn a_link_that_fails_ends_the_run_behind_the_end_mark(rt: HostRuntime) -> Result
     let unmarked = ran(&rt, rt.alloc(), true, &[], 8)?;
     assert_eq!(rt; unmarked.end, FilerEnd::LinkFault);
     assert_eq!(rt; unmarked.octets, 270);
+    Ok(())
+}
+
+// An entry of the link behind the others.
+fn put(alloc: Global, entries: &mut Vec<LinkEntry>, octets: &[u8]) -> Result<(), Fail> {
+    let octets = Octets::of(octets.to_vec(alloc)?);
+    entries.push(LinkEntry::Datagram(octets, 0))?;
+    Ok(())
+}
+
+// A packet of two frames, then one that is a duplicate, one too late and one too far ahead, a packet and a compound that
+// are refused, a compound, a packet of another source and one without a frame.
+fn every_outcome(alloc: Global) -> Result<Vec<LinkEntry>, Fail> {
+    let mut entries = Vec::new(alloc);
+    let mut two = packet(1, 0).to_vec(alloc)?;
+    two.extend_from_slice(&packet(1, 0)[12..])?;
+    put(alloc, &mut entries, &two)?;
+    put(alloc, &mut entries, &packet(2, 0))?;
+    put(alloc, &mut entries, &packet(3, 0xFFFF_F9C0))?;
+    put(alloc, &mut entries, &packet(4, 16000))?;
+    put(alloc, &mut entries, &packet(5, 0)[..11])?;
+    put(alloc, &mut entries, &[0x80, 0xC9, 0, 1, 0, 0, 0])?;
+    put(alloc, &mut entries, &[0x80, 0xC9, 0, 1, 0, 0, 0, 1])?;
+    let mut other = packet(6, 0);
+    other[8] = 1;
+    put(alloc, &mut entries, &other)?;
+    put(alloc, &mut entries, &packet(7, 0)[..12])?;
+    Ok(entries)
+}
+
+// How a run over every outcome ends, and how many octets its journal has, whose give with this number fails.
+fn journaled<R: Wait>(rt: &R, alloc: Global, give: u64) -> Result<(FilerEnd, usize), Fail> {
+    let mut link = MemoryLink::new(alloc, every_outcome(alloc)?, &[], 4)?;
+    let mut journal = MemorySink::new(alloc, 264, &[(give, 0)])?;
+    let mut side = MapFiler::of(MapLine::new(alloc, 1, 6)?, 0);
+    let ran = ran_over(rt, &mut side, &mut link, &mut journal);
+    Ok((ran.end, ran.octets))
+}
+
+#[test]
+fn each_event_of_a_journal_is_one_give(rt: HostRuntime) -> Result<(), Fail> {
+    let sizes = [0, 9, 18, 60, 102, 144, 194, 244, 248, 252, 253, 262, 263];
+    for k in 0..13 {
+        let (end, octets) = journaled(&rt, rt.alloc(), k as u64)?;
+        assert_eq!(rt; end, FilerEnd::JournalFault);
+        assert_eq!(rt; octets, sizes[k]);
+    }
+    let (end, octets) = journaled(&rt, rt.alloc(), 13)?;
+    assert_eq!(rt; end, FilerEnd::Ended);
+    assert_eq!(rt; octets, 264);
     Ok(())
 }
 

@@ -1,5 +1,5 @@
 use super::*;
-use play_machine::{FileReply, MapFiler, MapLine};
+use playout::{FileReply, MapFiler, MapLine};
 use rtcp_stats::RtcpFault;
 use rtp_codec::RtpFault;
 use std::test::Fail;

@@ -8,7 +8,7 @@ use crate::filer::Filer;
 use crate::journal::write_outcome;
 use crate::report::send_due;
 use gate_io::{Link, Received, Sink};
-use play_machine::FilerSide;
+use playout::FilerSide;
 
 /// What came of one receive.
 #[derive(Clone, Copy, Debug, PartialEq, Eq)]

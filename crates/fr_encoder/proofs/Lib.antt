@@ -5,3 +5,8 @@ pub mod ShortTermLaws
 pub mod FrontLaws
 pub mod ExcitationLaws
 pub mod CodingLaws
+pub mod Earlier
+pub mod OneShortTerm
+pub mod OneExcitation
+pub mod OneCoding
+pub mod Judged

@@ -3,3 +3,4 @@ pub mod ShortTerm
 pub mod Fronting
 pub mod Excitation
 pub mod Coding
+pub mod Sameness

@@ -6,7 +6,7 @@ use Rattle.std.specs.Io.KnownBytes.{Appends, Consumes, Keeps}
 use Rattle.std.proofs.KnownBytes.{Appends-trans, Appends-nil, Keeps-refl}
 use Rattle.gate_io.specs.Flow.{AppendsPart}
 use Rattle.gate_io.specs.FlowLaws.{AppendsPart-after, AppendsPart-longer}
-use Rattle.play_machine.specs.History.{calls_of}
+use Rattle.playout.specs.History.{calls_of}
 use Rattle.recorder.specs.declared.events.ScriptEvent.{ScriptEvent}
 use Rattle.recorder.specs.declared.fault.RecordFault.{RecordFault}
 use Rattle.recorder.specs.Heads.{head_fault, Heading, IsHeading, head_text, script_magic}

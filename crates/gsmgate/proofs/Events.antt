@@ -5,11 +5,11 @@ use Rattle.std.proofs.lemmas.List.{length-set}
 use Rattle.std.specs.List.{flat_map}
 use Rattle.frame_codec.specs.declared.item.Item.{Item}
 use Rattle.frame_codec.specs.declared.item.Item.TheVariants.{Idle}
-use Rattle.play_machine.specs.declared.reply.FileReply.{FileReply}
-use Rattle.play_machine.specs.declared.call.Call.{Call}
-use Rattle.play_machine.specs.declared.call.Call.TheVariants.{FileCall, PeekCall, TickCall}
-use Rattle.play_machine.specs.Line.{Line, FilerSteps, Steps}
-use Rattle.play_machine.specs.History.{Chained, Entry, IsLegal, after_all, entry, calls, calls_of}
+use Rattle.playout.specs.declared.reply.FileReply.{FileReply}
+use Rattle.playout.specs.declared.call.Call.{Call}
+use Rattle.playout.specs.declared.call.Call.TheVariants.{FileCall, PeekCall, TickCall}
+use Rattle.playout.specs.Line.{Line, FilerSteps, Steps}
+use Rattle.playout.specs.History.{Chained, Entry, IsLegal, after_all, entry, calls, calls_of}
 use Rattle.recorder.specs.declared.events.ScriptEvent.TheVariants.{Tick, File, Datagram, Beat}
 use Rattle.recorder.specs.Tallies.{call_items, call_replies, play_tally, item_counted, reply_counted}
 use Rattle.recorder.specs.TallyLaws.{play_tally-more}

@@ -6,9 +6,9 @@ use Rattle.std.proofs.KnownBytes.{Appends-nil}
 use Rattle.std.proofs.lemmas.List.Concat.{flat_map-append}
 use Rattle.byteorder.specs.Endian.{little_bytes}
 use Rattle.frame_codec.specs.declared.item.Item.{Item}
-use Rattle.play_machine.specs.declared.call.Call.{Call}
-use Rattle.play_machine.specs.declared.call.Call.TheVariants.{PeekCall, TickCall}
-use Rattle.play_machine.specs.History.{Entry, calls_of, entry}
+use Rattle.playout.specs.declared.call.Call.{Call}
+use Rattle.playout.specs.declared.call.Call.TheVariants.{PeekCall, TickCall}
+use Rattle.playout.specs.History.{Entry, calls_of, entry}
 use Rattle.gate_io.specs.Flow.{Gives}
 use Rattle.substitution.specs.Heard.{Sounding, Voices, sample_octets}
 use Rattle.recorder.specs.Heads.{Heading, head_text, play_magic}

@@ -3,7 +3,7 @@ use Rattle.std.proofs.Common.{◌≡◌, ℕ, zero, suc, ◌+◌, List, [], ◌�
 use Rattle.std.specs.Io.KnownBytes.{Appends}
 use Rattle.gate_io.specs.Flow.{AppendsPart}
 use Rattle.gate_io.specs.FlowLaws.{AppendsPart-after, AppendsPart-longer}
-use Rattle.play_machine.specs.declared.reply.FileReply.{FileReply}
+use Rattle.playout.specs.declared.reply.FileReply.{FileReply}
 use Rattle.gsmgate.specs.Notes.{reply_line}
 use Rattle.gsmgate.specs.Outcomes.{filed_lines}
 

@@ -9,11 +9,11 @@ use Rattle.std.proofs.KnownBytes.{Consumes-trans, Consumes-nil, Appends-trans, A
 use Rattle.gate_io.specs.Flow.{AppendsPart}
 use Rattle.gate_io.specs.FlowLaws.{AppendsPart-after}
 use Rattle.frame_codec.specs.declared.item.Item.{Item}
-use Rattle.play_machine.specs.declared.call.Call.{Call}
-use Rattle.play_machine.specs.Machine.{Machine, opening_machine, start}
-use Rattle.play_machine.specs.Line.{Line}
-use Rattle.play_machine.specs.History.{Entry, IsLegal, after_all, calls, calls_of}
-use Rattle.play_machine.specs.HistoryLaws.{after_all-append, IsLegal-append, calls-append, calls_of-append}
+use Rattle.playout.specs.declared.call.Call.{Call}
+use Rattle.playout.specs.Machine.{Machine, opening_machine, start}
+use Rattle.playout.specs.Line.{Line}
+use Rattle.playout.specs.History.{Entry, IsLegal, after_all, calls, calls_of}
+use Rattle.playout.specs.HistoryLaws.{after_all-append, IsLegal-append, calls-append, calls_of-append}
 use Rattle.recorder.specs.declared.fault.RecordFault.{RecordFault}
 use Rattle.recorder.specs.declared.events.ScriptEvent.{ScriptEvent}
 use Rattle.recorder.specs.declared.events.ScriptEvent.TheVariants.{Tick, File, Datagram, Beat}

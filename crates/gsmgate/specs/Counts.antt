@@ -1,6 +1,6 @@
 -- What is counted of datagrams and of replies.
 use Rattle.std.specs.Prelude.{List, length, count_by, Bool, true, false}
-use Rattle.play_machine.specs.declared.reply.FileReply.{FileReply}
+use Rattle.playout.specs.declared.reply.FileReply.{FileReply}
 use Rattle.recorder.specs.declared.tally.Tally.{Tally}
 use Rattle.recorder.specs.Tallies.{capped, is_accepted, is_duplicate, is_late, is_beyond}
 use Rattle.filer.specs.declared.outcome.OutcomeEnd.{OutcomeEnd}

@@ -1,6 +1,6 @@
 -- The lines of a datagram, from its outcome: the same lines as those of its end and of its calls.
 use Rattle.std.specs.Prelude.{ℕ, suc, List, [], ◌∷◌, ◌++◌}
-use Rattle.play_machine.specs.declared.reply.FileReply.{FileReply}
+use Rattle.playout.specs.declared.reply.FileReply.{FileReply}
 use Rattle.filer.specs.declared.outcome.OutcomeEnd.{OutcomeEnd}
 use Rattle.filer.specs.declared.outcome.OutcomeEnd.TheVariants as end
 use Rattle.gsmgate.specs.Notes.{own_line, reply_line}

@@ -2,7 +2,7 @@
 use Rattle.std.specs.Prelude.{ℕ, ◌≡◌, ℤ, List, [], ◌∷◌, ◌++◌, Option, Some, None}
 use Rattle.std.specs.List.{flat_map}
 use Rattle.frame_codec.specs.declared.item.Item.{Item}
-use Rattle.play_machine.specs.declared.call.Call.{Call}
+use Rattle.playout.specs.declared.call.Call.{Call}
 use Rattle.substitution.specs.Heard.{IsHeardPcm, Voices, sample_octets}
 use Rattle.recorder.specs.Files.{end_mark}
 use Rattle.recorder.specs.Heads.{Heading, head_text, play_magic}

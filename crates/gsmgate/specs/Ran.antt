@@ -3,8 +3,8 @@ use Rattle.std.specs.Prelude.{ℕ, ◌≡◌, ◌≤◌, ◌^◌, ◌⊎◌, Lis
 use Rattle.std.specs.List.{flat_map, AllByRecursion}
 use Rattle.std.specs.Io.KnownBytes.{Appends}
 use Rattle.gate_io.specs.Flow.{AppendsPart}
-use Rattle.play_machine.specs.Machine.{opening_machine}
-use Rattle.play_machine.specs.History.{IsLegal, calls, calls_of}
+use Rattle.playout.specs.Machine.{opening_machine}
+use Rattle.playout.specs.History.{IsLegal, calls, calls_of}
 use Rattle.recorder.specs.declared.events.ScriptEvent.{ScriptEvent}
 use Rattle.recorder.specs.Heads.{Heading, IsHeading}
 use Rattle.recorder.specs.Reader.{Progress, headed}

@@ -2,8 +2,8 @@
 use Rattle.std.specs.Prelude.{ℕ, ◌≡◌, ◌≤◌, ◌^◌, ◌⊎◌, List, ◌∷◌, ◌++◌, length, take, Option, Some, IfSome}
 use Rattle.std.specs.List.{AllByRecursion}
 use Rattle.std.specs.Io.KnownBytes.{Keeps}
-use Rattle.play_machine.specs.Machine.{opening_machine}
-use Rattle.play_machine.specs.History.{IsLegal, calls_of}
+use Rattle.playout.specs.Machine.{opening_machine}
+use Rattle.playout.specs.History.{IsLegal, calls_of}
 use Rattle.recorder.specs.declared.fault.RecordFault.{RecordFault}
 use Rattle.recorder.specs.declared.events.ScriptEvent.{ScriptEvent}
 use Rattle.recorder.specs.Heads.{Heading, IsHeading, head_fault, script_magic}

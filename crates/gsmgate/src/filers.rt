@@ -1,14 +1,14 @@
 // The filers of a script.
 ghost use Rattle.std.specs.Prelude.{◌≡◌, ◌≤◌, ◌<◌, Some, IfOk, length, replicate, slice_get, slice_set};
-ghost use Rattle.play_machine.specs.History.{Chained};
-ghost use Rattle.play_machine.specs.Line.{FilerSteps};
+ghost use Rattle.playout.specs.History.{Chained};
+ghost use Rattle.playout.specs.Line.{FilerSteps};
 ghost use Rattle.filer.specs.Journals.{EndFits};
 ghost use Rattle.filer.specs.Takes.{IsTaken, Known, calls_of};
 ghost use Rattle.gsmgate.specs.Calls.{new_filer};
 
 use filer::{Filer, Outcome};
 use gate_base::OutOfMemory;
-use play_machine::MapFiler;
+use playout::MapFiler;
 use recorder::Packet;
 use std::alloc::Global;
 

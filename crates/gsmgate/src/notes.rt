@@ -8,7 +8,7 @@ ghost use Rattle.gsmgate.specs.Notes.{counted, fault_line, fault_words, frame_wo
 
 use crate::line::Line;
 use gate_io::{Failed, Sink};
-use play_machine::FileReply;
+use playout::FileReply;
 use recorder::{PlayTally, RecordFault, Tally};
 
 /// Notes that the words are no line of the program.

@@ -3,7 +3,7 @@ ghost use Rattle.std.specs.Prelude.{◌≡◌, ◌≤◌, ◌<◌, ◌^◌, ◌�
 ghost use Rattle.std.specs.List.{flat_map};
 ghost use Rattle.gate_base.specs.Faults.{HasCause, Rose};
 ghost use Rattle.gate_io.specs.Flow.{Gives};
-ghost use Rattle.play_machine.specs.History.{calls_of};
+ghost use Rattle.playout.specs.History.{calls_of};
 ghost use Rattle.recorder.specs.Play.{call_text};
 ghost use Rattle.recorder.specs.Tallies.{call_items, no_plays, no_tally};
 ghost use Rattle.recorder.specs.declared.events.ScriptEvent.TheVariants.{Tick, File, Datagram, Beat};
@@ -20,7 +20,7 @@ use crate::refusals::give_end;
 use filer::{Filer, count_end};
 use frame_codec::{Frame33, Item};
 use gate_io::{Failed, Sink};
-use play_machine::{MapFiler, MapLine};
+use playout::{MapFiler, MapLine};
 use recorder::{Packet, PlayTally, ScriptEvent, Tally};
 
 /// A script's run: the line that its events call, the callers' states, and what was counted of the calls.

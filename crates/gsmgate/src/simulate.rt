@@ -18,7 +18,7 @@ use crate::status::Status;
 use crate::stop::Stop;
 use gate_base::OutOfMemory;
 use gate_io::{Failed, Sink, Source};
-use play_machine::MapLine;
+use playout::MapLine;
 use recorder::{Head, RecordEnd, ScriptReader};
 use std::alloc::Global;
 

@@ -4,8 +4,8 @@ use Rattle.std.specs.List.{flat_map, AllByRecursion}
 use Rattle.std.proofs.lemmas.List.Concat.{flat_map-append}
 use Rattle.frame_codec.specs.declared.item.Item.{Item}
 use Rattle.frame_codec.specs.declared.item.Item.TheVariants as items
-use Rattle.play_machine.specs.declared.call.Call.{Call}
-use Rattle.play_machine.specs.declared.call.Call.TheVariants.{FileCall, SourceCall, BaseCall, PeekCall, TickCall}
+use Rattle.playout.specs.declared.call.Call.{Call}
+use Rattle.playout.specs.declared.call.Call.TheVariants.{FileCall, SourceCall, BaseCall, PeekCall, TickCall}
 use Rattle.recorder.specs.declared.events.PlayEvent.{PlayEvent}
 use Rattle.recorder.specs.declared.events.PlayEvent.TheVariants.{Idle, Base}
 use Rattle.recorder.specs.Play.{AllPlayFit, call_text, event_of_item, play_event_text}

@@ -2,7 +2,7 @@
 use Rattle.std.specs.Prelude.{ℕ, ◌≡◌, ◌≤◌, ℤ, List, length, Option, Some}
 use Rattle.std.specs.List.{AllByRecursion}
 use Rattle.std.specs.Io.KnownBytes.{Appends}
-use Rattle.play_machine.specs.declared.call.Call.{Call}
+use Rattle.playout.specs.declared.call.Call.{Call}
 use Rattle.recorder.specs.Files.{event_limit}
 use Rattle.recorder.specs.Heads.{Heading, IsHeading}
 use Rattle.recorder.specs.Journals.{IsPlayerJournal, PlayerRecord}

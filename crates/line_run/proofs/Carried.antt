@@ -1,7 +1,7 @@
 -- A filer's run over one side is its run over what is seen of that side.
 use Rattle.std.proofs.Common.{◌≡◌, inl, inr, ℕ, List, Option, [], ◌∷◌, ◌++◌, sym, ap, ◌∙◌, subst, append_assoc, append-nil}
-use Rattle.play_machine.specs.declared.call.Call.{Call}
-use Rattle.play_machine.specs.History.{Chained}
+use Rattle.playout.specs.declared.call.Call.{Call}
+use Rattle.playout.specs.History.{Chained}
 use Rattle.slot_ring.specs.Seen.{PassView, Grown}
 use Rattle.filer.specs.declared.outcome.Outcome.{Outcome}
 use Rattle.filer.specs.declared.run.FilerEnd.{FilerEnd}

@@ -1,7 +1,7 @@
 -- The lists of all callers of a line.
 use Rattle.std.proofs.Common.{◌≡◌, ◌⊎◌, inl, inr, ℕ, suc, zero, ◌+◌, ◌<◌, ◌≤◌, List, length, set, Some, None, refl, sym, ap, ◌∙◌, arith}
 use Rattle.std.specs.Prelude.{slice_get, replicate}
-use Rattle.play_machine.specs.declared.call.Call.{Call}
+use Rattle.playout.specs.declared.call.Call.{Call}
 use Rattle.step_table.specs.Packed.{Where}
 use Rattle.slot_ring.specs.Seen.{PassView, no_lists}
 use Rattle.slot_ring.specs.Remains.{AllGathered}

@@ -2,9 +2,9 @@
 use Rattle.std.proofs.Common.{◌≡◌, ℕ, suc, zero, ◌+◌, ◌^◌, ◌<◌, ◌≤◌, List, [], ◌∷◌, length, map, Option, Some, refl, sym, ap, ◌∙◌, subst, arith}
 use mathlib.Core.Option.{some, some-ne-none, some-injective}
 use lib.ListN.{get_elem?}
-use Rattle.play_machine.specs.declared.call.Call.{Call}
-use Rattle.play_machine.specs.Machine.{opening_machine}
-use Rattle.play_machine.specs.History.{AllMayCall, IsLegal, calls_of}
+use Rattle.playout.specs.declared.call.Call.{Call}
+use Rattle.playout.specs.Machine.{opening_machine}
+use Rattle.playout.specs.History.{AllMayCall, IsLegal, calls_of}
 use Rattle.step_table.specs.Packed.{Where}
 use Rattle.slot_ring.specs.Seen.{PassView}
 use Rattle.slot_ring.specs.Remains.{Ended, LeftView}
@@ -15,6 +15,7 @@ use Rattle.player.specs.declared.run.PlayerEnd.{PlayerEnd}
 use Rattle.line_run.specs.declared.caller.Caller.{Caller}
 use Rattle.line_run.specs.declared.player_caller.PlayerCaller.{PlayerCaller}
 use Rattle.line_run.specs.Callers.{AllRan, AreLists, AreNew, AreNumbered, CallerRan, told}
+use Rattle.line_run.specs.Fan.{AreKin}
 use Rattle.line_run.specs.Filing.{FilerCame}
 use Rattle.line_run.specs.Line.{LineRan}
 use Rattle.line_run.specs.Opening.{LineSeen}
@@ -38,8 +39,8 @@ many_mapped : {A B : Type 0} (f : A → B) (xs : List A) → length (map f xs) �
 many_mapped f [] = refl
 many_mapped f (x ∷ xs) = let h = many_mapped f xs in omega arith
 
-module _ {P J : Type 0} (l : LineSeen) (ring : Where) (link : P → LinkSeen) (sink : J → SinkSeen) (cs : List Caller) (ps : List P) (js : List J) (a : PlayerSeen) (cs' : List Caller) (ps' : List P) (js' : List J) (b : PlayerSeen) (player : PlayerCaller)
-    (new : AreNew l ring cs) (many : length cs ≡ l.filers) (links : length ps ≡ l.filers) (journals : length js ≡ 1 + l.filers) (ran : AllRan l ring link sink cs ps js a cs' ps' js' b player) where
+module _ {P J : Type 0} (l : LineSeen) (ring : Where) (link : P → LinkSeen) (sink : J → SinkSeen) (kin : J → J → Type 0) (cs : List Caller) (ps : List P) (js : List J) (a : PlayerSeen) (cs' : List Caller) (ps' : List P) (js' : List J) (b : PlayerSeen) (player : PlayerCaller)
+    (new : AreNew l ring cs) (many : length cs ≡ l.filers) (links : length ps ≡ l.filers) (journals : length js ≡ 1 + l.filers) (ran : AllRan l ring link sink kin cs ps js a cs' ps' js' b player) where
   rest_many : length ran.rest ≡ l.filers
   rest_many = let e : length js ≡ length (ran.first ∷ ran.rest) = ap length ran.split in omega (arith, journals)
 
@@ -56,12 +57,13 @@ module _ {P J : Type 0} (l : LineSeen) (ring : Where) (link : P → LinkSeen) (s
     of_ring : pass.ring ≡ ring
     who : pass.who ≡ i
     came : FilerCame l.filers l.options i (link p) (sink j) (link link') (sink sink') pass.list caller.end caller.tally
+    journal : kin j sink'
 
   ran_at : (i : ℕ) (p : P) (j : J) → i < l.filers → get_elem? ps i ≡ some p → get_elem? ran.rest i ≡ some j → RanAt i p j
   ran_at i p j low ep ej =
       let d = at_exists cs i (subst (λ (n : ℕ). i < n) (sym many) low) in
       let h = ran.filers.each i d.0 p j d.1 ep ej in
-      let one : CallerRan l ring link sink d.0 p j h.0 h.1 h.2 = h.6 in
+      let one : CallerRan l ring link sink kin d.0 p j h.0 h.1 h.2 = h.6 in
       let number : d.0.number ≡ i = (new i d.0 d.1).1 in
       record {
         caller = h.0;
@@ -75,6 +77,7 @@ module _ {P J : Type 0} (l : LineSeen) (ring : Where) (link : P → LinkSeen) (s
         of_ring = one.of_ring;
         who = one.who ∙ number;
         came = subst (λ (n : ℕ). FilerCame l.filers l.options n (link p) (sink j) (link h.1) (sink h.2) one.pass.list h.0.end h.0.tally) number one.came;
+        journal = one.journal;
       }
 
   -- the filers have their numbers still
@@ -86,6 +89,18 @@ module _ {P J : Type 0} (l : LineSeen) (ring : Where) (link : P → LinkSeen) (s
       let h = ran_at i p.0 j.0 low p.1 j.1 in
       let same : h.caller ≡ c = some-injective h.caller c (sym h.there ∙ at) in
       (h.pass, ap (λ (d : Caller). d.pass) (sym same) ∙ h.has, h.of_ring, h.who)
+
+  -- each journal is kin to what it was
+  pub all_kin : AreKin kin js js'
+  all_kin zero j at =
+      let same : ran.first ≡ j = some-injective ran.first j (sym (ap (λ (x : List J). get_elem? x 0) ran.split) ∙ at) in
+      (ran.first', ap (λ (x : List J). get_elem? x 0) ran.split', subst (λ (x : J). kin x ran.first') same ran.journal)
+  all_kin (suc i) j at =
+      let there : get_elem? ran.rest i ≡ some j = sym (ap (λ (x : List J). get_elem? x (suc i)) ran.split) ∙ at in
+      let low : i < l.filers = subst (λ (n : ℕ). i < n) rest_many (at_below ran.rest i j there) in
+      let p = at_exists ps i (subst (λ (n : ℕ). i < n) (sym links) low) in
+      let h = ran_at i p.0 j low p.1 there in
+      (h.sink', ap (λ (x : List J). get_elem? x (suc i)) ran.split' ∙ h.at_sink, h.journal)
 
   line_ran : (filers : List (FilerEnd × Tally)) (left : LeftView) → ring.shape.filers ≡ l.filers → ring.shape.g ≡ l.options.g → filers ≡ map told cs' → AreLists ring.shape.filers cs' player left.lists → Ended ring.shape left.lists left.frames
       → LineRan l link sink ps js ps' js' a b player.end player.tally filers left

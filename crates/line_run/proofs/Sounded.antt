@@ -3,7 +3,7 @@ use Rattle.std.proofs.Common.{◌≡◌, ◌⊎◌, inl, ℕ, ◌+◌, ◌≤◌
 use Rattle.std.specs.Prelude.{is_err}
 use Rattle.gate_base.specs.Faults.{HasCause, Rose}
 use Rattle.gate_io.specs.Flow.{Gives}
-use Rattle.play_machine.specs.declared.call.Call.{Call}
+use Rattle.playout.specs.declared.call.Call.{Call}
 use Rattle.recorder.specs.declared.tally.PlayTally.{PlayTally}
 use Rattle.recorder.specs.Heads.{Heading, head_text, play_magic}
 use Rattle.recorder.specs.Tallies.{play_tally}

@@ -2,7 +2,7 @@
 use Rattle.std.specs.Prelude.{◌≡◌, ◌⊎◌, ℕ, ◌+◌, ◌<◌, ◌≤◌, List, [], ◌∷◌, length, Option, Some, slice_get, slice_set, Bool, true}
 use mathlib.Core.Option.{some}
 use lib.ListN.{get_elem?}
-use Rattle.play_machine.specs.declared.call.Call.{Call}
+use Rattle.playout.specs.declared.call.Call.{Call}
 use Rattle.step_table.specs.Packed.{Where}
 use Rattle.slot_ring.specs.Seen.{PassView}
 use Rattle.recorder.specs.declared.tally.PlayTally.{PlayTally}
@@ -50,13 +50,14 @@ HasRightsFrom first last rights = (i : ℕ) → first ≤ i → i ≤ last → s
 
 -- ---- after they ran
 
--- a filer's pass is back, with the calls of what it came to
-pub record CallerRan {P J : Type 0} (l : LineSeen) (ring : Where) (link : P → LinkSeen) (sink : J → SinkSeen) (a : Caller) (p : P) (j : J) (a' : Caller) (p' : P) (j' : J) : Type 0 where
+-- a filer's pass is back, with the calls of what it came to, and its journal is kin to what it was
+pub record CallerRan {P J : Type 0} (l : LineSeen) (ring : Where) (link : P → LinkSeen) (sink : J → SinkSeen) (kin : J → J → Type 0) (a : Caller) (p : P) (j : J) (a' : Caller) (p' : P) (j' : J) : Type 0 where
   pub pass : PassView
   pub has : a'.pass ≡ Some pass
   pub of_ring : pass.ring ≡ ring
   pub who : pass.who ≡ a.number
   pub came : FilerCame l.filers l.options a.number (link p) (sink j) (link p') (sink j') pass.list a'.end a'.tally
+  pub journal : kin j j'
 
 -- the player's pass is back, with the calls of what it came to
 pub record PlayerRan (l : LineSeen) (ring : Where) (a : PlayerSeen) (j : SinkSeen) (b : PlayerSeen) (j' : SinkSeen) (c' : PlayerCaller) : Type 0 where
@@ -77,15 +78,16 @@ pub record PassPlayed (o : LineOptions) (calls : List Call) (a : PlayerSeen) (j 
   pub open_still : b.reply.ended ≡ a.reply.ended
 
 -- All callers ran: the player over the first journal, and each filer over its link and its place of the other journals.
-pub record AllRan {P J : Type 0} (l : LineSeen) (ring : Where) (link : P → LinkSeen) (sink : J → SinkSeen) (cs : List Caller) (ps : List P) (js : List J) (a : PlayerSeen) (cs' : List Caller) (ps' : List P) (js' : List J) (b : PlayerSeen) (player : PlayerCaller) : Type 0 where
+pub record AllRan {P J : Type 0} (l : LineSeen) (ring : Where) (link : P → LinkSeen) (sink : J → SinkSeen) (kin : J → J → Type 0) (cs : List Caller) (ps : List P) (js : List J) (a : PlayerSeen) (cs' : List Caller) (ps' : List P) (js' : List J) (b : PlayerSeen) (player : PlayerCaller) : Type 0 where
   pub first : J
   pub first' : J
   pub rest : List J
   pub rest' : List J
   pub split : js ≡ first ∷ rest
   pub split' : js' ≡ first' ∷ rest'
-  pub filers : Each (CallerRan l ring link sink) cs ps rest cs' ps' rest'
+  pub filers : Each (CallerRan l ring link sink kin) cs ps rest cs' ps' rest'
   pub playing : PlayerRan l ring a (sink first) b (sink first') player
+  pub journal : kin first first'
 
 -- ---- and when they leave
 

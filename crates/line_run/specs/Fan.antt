@@ -11,6 +11,10 @@ pub record Each {A P J : Type 0} (ran : A → P → J → A → P → J → Type
   pub each : (i : ℕ) (a : A) (p : P) (j : J) → get_elem? cs i ≡ some a → get_elem? ps i ≡ some p → get_elem? js i ≡ some j
       → (a' : A) × (p' : P) × (j' : J) × (get_elem? cs' i ≡ some a') × (get_elem? ps' i ≡ some p') × (get_elem? js' i ≡ some j') × ran a p j a' p' j'
 
+-- each place has a later value that is kin to what was there
+abbrev pub AreKin : {J : Type 0} → (J → J → Type 0) → List J → List J → Type 0
+AreKin {J} kin js js' = (i : ℕ) (j : J) → get_elem? js i ≡ some j → (j' : J) × (get_elem? js' i ≡ some j') × kin j j'
+
 -- each element has this
 abbrev pub AtEach : {A : Type 0} → (A → Type 0) → List A → Type 0
 AtEach {A} has xs = (i : ℕ) (x : A) → get_elem? xs i ≡ some x → has x

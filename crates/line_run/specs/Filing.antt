@@ -3,7 +3,7 @@ use Rattle.std.specs.Prelude.{◌≡◌, ◌⊎◌, ℕ, ◌≤◌, List, [], �
 use Rattle.std.specs.Io.KnownBytes.{Appends}
 use Rattle.gate_base.specs.Faults.{Rose}
 use Rattle.gate_io.specs.Flow.{AppendsPart}
-use Rattle.play_machine.specs.declared.call.Call.{Call}
+use Rattle.playout.specs.declared.call.Call.{Call}
 use Rattle.recorder.specs.declared.tally.Tally.{Tally}
 use Rattle.recorder.specs.Filing.{filer_head_text}
 use Rattle.recorder.specs.Tallies.{no_tally}

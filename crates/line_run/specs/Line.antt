@@ -3,8 +3,8 @@ use Rattle.std.specs.Prelude.{◌≡◌, ℕ, ◌+◌, ◌^◌, ◌<◌, ◌≤�
 use mathlib.Core.Option.{some}
 use lib.ListN.{get_elem?}
 use Rattle.std.specs.FinMap as map
-use Rattle.play_machine.specs.Machine.{opening_machine}
-use Rattle.play_machine.specs.History.{Entry, IsLegal, AllMayCall, after_all, calls_of}
+use Rattle.playout.specs.Machine.{opening_machine}
+use Rattle.playout.specs.History.{Entry, IsLegal, AllMayCall, after_all, calls_of}
 use Rattle.recorder.specs.declared.tally.Tally.{Tally}
 use Rattle.recorder.specs.declared.tally.PlayTally.{PlayTally}
 use Rattle.filer.specs.declared.run.FilerEnd.{FilerEnd}

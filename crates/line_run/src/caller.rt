@@ -34,7 +34,7 @@ pub(crate) fn run_one<R: Wait, P: Link, J: Sink>(
     journal: &mut J,
 )
     requires { Stands plan.now ring.now caller.old }
-    ensures { CallerRan plan.now ring.now (link_seen P.log P.ended P.faults) (sink_seen J.given J.faults) caller.old link.old journal.old caller.new link.new journal.new }
+    ensures { CallerRan plan.now ring.now (link_seen P.log P.ended P.faults) (sink_seen J.given J.faults) J.kin caller.old link.old journal.old caller.new link.new journal.new }
 {
     if write_filer_head(&plan.head(), caller.number, journal).is_err() {
         caller.end = FilerEnd::JournalFault;
@@ -79,6 +79,7 @@ fn run_over<L: Ledger, R: Wait, P: Link, J: Sink>(
     ensures link_fault { result.1 ≡ FilerEnd.LinkFault → Rose (P.faults link.old) (P.faults link.new) }
     ensures journal_later { J.faults journal.old ≤ J.faults journal.new }
     ensures journal_fault { result.1 ≡ FilerEnd.JournalFault → Rose (J.faults journal.old) (J.faults journal.new) }
+    ensures kin { J.kin journal.old journal.new }
 {
     let mut side = RingFiler::new(ring, pass, Steps::<L>::open(blank));
     let end = filer.run(rt, &mut side, link, journal);

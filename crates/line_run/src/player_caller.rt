@@ -34,6 +34,7 @@ pub(crate) fn run_playing<I: Source, O: Sink, J: Sink, P: Link, C: TickClock>(
     requires { PlayerStands ring.now caller.old }
     ensures ran { PlayerRan plan.now ring.now (player_seen (clock_seen C.ticks C.ended clock.old) (sink_seen O.given O.faults speaker.old) (source_seen I.left I.faults microphone.old) (link_seen P.log P.ended P.faults reply.old)) (sink_seen J.given J.faults journal.old) (player_seen (clock_seen C.ticks C.ended clock.new) (sink_seen O.given O.faults speaker.new) (source_seen I.left I.faults microphone.new) (link_seen P.log P.ended P.faults reply.new)) (sink_seen J.given J.faults journal.new) caller.new }
     ensures kin { O.kin speaker.old speaker.new }
+    ensures journal_kin { J.kin journal.old journal.new }
 {
     if write_play_head(&plan.head(), journal).is_err() {
         caller.end = PlayerEnd::JournalFault;
@@ -85,6 +86,7 @@ fn play_over<L: Ledger, I: Source, O: Sink, J: Sink, P: Link, C: TickClock>(
     ensures reply_later { P.faults reply.old ≤ P.faults reply.new }
     ensures reply_fault { result.1 ≡ PlayerEnd.ReplyFault → Rose (P.faults reply.old) (P.faults reply.new) }
     ensures kin { O.kin speaker.old speaker.new }
+    ensures journal_kin { J.kin journal.old journal.new }
 {
     let mut side = RingPlayer::new(ring, pass, Steps::<L>::open(blank));
     let mut player = plan.player();

@@ -4,9 +4,9 @@ use Rattle.std.specs.List.{AllByRecursion}
 use Rattle.std.proofs.lemmas.List.{map-append}
 use Rattle.std.proofs.lemmas.List.Concat.{flat_map-append}
 use Rattle.frame_codec.specs.declared.item.Item.{Item}
-use Rattle.play_machine.specs.declared.call.Call.{Call}
-use Rattle.play_machine.specs.declared.call.Call.TheVariants.{PeekCall, TickCall}
-use Rattle.play_machine.specs.History.{Chained, ticks}
+use Rattle.playout.specs.declared.call.Call.{Call}
+use Rattle.playout.specs.declared.call.Call.TheVariants.{PeekCall, TickCall}
+use Rattle.playout.specs.History.{Chained, ticks}
 use Rattle.recorder.specs.Play.{call_text}
 use Rattle.recorder.specs.Tallies.{call_items}
 use Rattle.player.specs.declared.found.Found.{Found}

@@ -7,8 +7,8 @@ use Rattle.gate_io.specs.Flow.{AppendsPart, Gives}
 use Rattle.gate_io.specs.FlowLaws.{AppendsPart-longer, Gives-after}
 use Rattle.gate_io.specs.Links.{LinkLog}
 use Rattle.frame_codec.specs.declared.item.Item.{Item}
-use Rattle.play_machine.specs.declared.call.Call.{Call}
-use Rattle.play_machine.specs.History.{Chained, ticks}
+use Rattle.playout.specs.declared.call.Call.{Call}
+use Rattle.playout.specs.History.{Chained, ticks}
 use Rattle.recorder.specs.declared.events.PlayEvent.{PlayEvent}
 use Rattle.recorder.specs.declared.events.PlayEvent.TheVariants.{Base}
 use Rattle.recorder.specs.Play.{call_text, event_of_item, play_event_text}

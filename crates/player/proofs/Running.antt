@@ -3,7 +3,7 @@ use Rattle.std.proofs.Common.{◌≡◌, ℕ, zero, suc, ◌+◌, ◌≤◌, Lis
 use Rattle.std.specs.Io.KnownBytes.{Appends}
 use Rattle.gate_base.specs.Faults.{HasCause, Rose}
 use Rattle.gate_io.specs.Flow.{Gives}
-use Rattle.play_machine.specs.declared.call.Call.{Call}
+use Rattle.playout.specs.declared.call.Call.{Call}
 use Rattle.recorder.specs.Files.{end_mark}
 use Rattle.player.specs.declared.beat.Beat.TheVariants as beat
 use Rattle.player.specs.declared.run.PlayerEnd.{PlayerEnd}

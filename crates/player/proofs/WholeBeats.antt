@@ -9,8 +9,8 @@ use Rattle.std.proofs.lemmas.List.Concat.{flat_map-append}
 use Rattle.byteorder.specs.Endian.{little_bytes}
 use Rattle.gate_io.specs.Links.{GoesTo, LinkLog}
 use Rattle.frame_codec.specs.declared.item.Item.{Item}
-use Rattle.play_machine.specs.declared.call.Call.{Call}
-use Rattle.play_machine.specs.History.{Chained, ticks}
+use Rattle.playout.specs.declared.call.Call.{Call}
+use Rattle.playout.specs.History.{Chained, ticks}
 use Rattle.recorder.specs.declared.tally.PlayTally.{PlayTally}
 use Rattle.recorder.specs.Tallies.{item_counted, play_tally}
 use Rattle.recorder.specs.TallyLaws.{play_tally-more}

@@ -6,7 +6,7 @@ use Rattle.std.proofs.KnownBytes.{Appends-trans}
 use Rattle.std.proofs.Math.Seq.{take-append-add}
 use Rattle.gate_io.specs.Flow.{AppendsPart}
 use Rattle.gate_io.specs.Links.{GoesTo, LinkLog}
-use Rattle.play_machine.specs.declared.call.Call.{Call}
+use Rattle.playout.specs.declared.call.Call.{Call}
 use Rattle.recorder.specs.Files.{end_mark}
 use Rattle.substitution.specs.Heard.{sample_octets}
 use Rattle.player.specs.declared.beat.Beat.{Beat}

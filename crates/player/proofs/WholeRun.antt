@@ -1,6 +1,6 @@
 -- A whole run by its beats.
 use Rattle.std.proofs.Common.{ℕ, List, inl, inr, sym, subst}
-use Rattle.play_machine.specs.declared.call.Call.{Call}
+use Rattle.playout.specs.declared.call.Call.{Call}
 use Rattle.player.specs.declared.run.PlayerEnd.{PlayerEnd}
 use Rattle.player.specs.declared.run.PlayerEnd.TheVariants as ended
 use Rattle.player.specs.Beats.{Standing, Starts}

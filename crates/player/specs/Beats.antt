@@ -7,9 +7,9 @@ use Rattle.gate_io.specs.Links.{LinkLog}
 use Rattle.frame_codec.specs.Octets.{IsFrame}
 use Rattle.frame_codec.specs.declared.item.Item.{Item}
 use Rattle.frame_codec.specs.declared.item.Item.TheVariants as items
-use Rattle.play_machine.specs.declared.call.Call.{Call}
-use Rattle.play_machine.specs.declared.call.Call.TheVariants.{FileCall, SourceCall, BaseCall, PeekCall, TickCall}
-use Rattle.play_machine.specs.History.{Chained, ticks}
+use Rattle.playout.specs.declared.call.Call.{Call}
+use Rattle.playout.specs.declared.call.Call.TheVariants.{FileCall, SourceCall, BaseCall, PeekCall, TickCall}
+use Rattle.playout.specs.History.{Chained, ticks}
 use Rattle.recorder.specs.declared.tally.PlayTally.{PlayTally}
 use Rattle.recorder.specs.Play.{call_text}
 use Rattle.recorder.specs.Tallies.{item_counted, no_plays}

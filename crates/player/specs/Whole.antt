@@ -6,9 +6,9 @@ use Rattle.gate_base.specs.Faults.{Rose}
 use Rattle.gate_io.specs.Flow.{ConsumesFewer}
 use Rattle.gate_io.specs.Links.{GoesTo, LinkLog}
 use Rattle.frame_codec.specs.declared.item.Item.{Item}
-use Rattle.play_machine.specs.declared.call.Call.{Call}
-use Rattle.play_machine.specs.declared.call.Call.TheVariants.{PeekCall, TickCall}
-use Rattle.play_machine.specs.History.{Chained, ticks}
+use Rattle.playout.specs.declared.call.Call.{Call}
+use Rattle.playout.specs.declared.call.Call.TheVariants.{PeekCall, TickCall}
+use Rattle.playout.specs.History.{Chained, ticks}
 use Rattle.recorder.specs.Files.{end_mark}
 use Rattle.recorder.specs.Play.{call_text}
 use Rattle.recorder.specs.Tallies.{call_items, play_tally}

@@ -13,7 +13,7 @@ use crate::return_stream::ReturnEnd;
 use byteorder::{ByteOrder, LittleEndian};
 use frame_codec::Item;
 use gate_io::{Failed, Link, Sink, Source};
-use play_machine::PlayerSide;
+use playout::PlayerSide;
 use substitution::Voice;
 
 /// What came of a beat.

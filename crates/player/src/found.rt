@@ -3,13 +3,13 @@ ghost use Rattle.std.specs.Prelude.{◌≡◌, ◌<◌, ◌+◌, ◌^◌};
 ghost use Rattle.std.specs.List.{flat_map, AllByRecursion};
 ghost use Rattle.gate_base.specs.Faults.{HasCause};
 ghost use Rattle.gate_io.specs.Flow.{Gives};
-ghost use Rattle.play_machine.specs.History.{Chained, ticks};
+ghost use Rattle.playout.specs.History.{Chained, ticks};
 ghost use Rattle.recorder.specs.Play.{call_text};
 ghost use Rattle.player.specs.Beats.{CanBeTold, Looks, calls_of, is_open, item_of};
 
 use frame_codec::Item;
 use gate_io::{Failed, Sink};
-use play_machine::PlayerSide;
+use playout::PlayerSide;
 use recorder::{PlayEvent, play_event_of, write_play};
 
 /// What a beat found: what it is to play, and a base that it saw for it.

@@ -1,6 +1,6 @@
 use super::*;
 use gate_io::{MemoryClock, MemoryLink, MemorySink, MemorySource};
-use play_machine::{MapLine, MapPlayer};
+use playout::{MapLine, MapPlayer};
 use std::alloc::Global;
 use std::test::Fail;
 
@@ -92,6 +92,25 @@ fn a_microphone_or_a_reply_link_that_fails_ends_a_beat(rt: HostRuntime) -> Resul
     assert_eq!(rt; sent, 1);
     assert_eq!(rt; speaker.octets().len(), 1280);
     assert_eq!(rt; journal.octets().len(), 14);
+    Ok(())
+}
+
+#[test]
+fn each_piece_of_speech_and_each_event_is_one_give(rt: HostRuntime) -> Result<(), Fail> {
+    for (give, octets) in [(0, 320), (1, 320), (2, 640)] {
+        let mut speaker = MemorySink::new(rt.alloc(), 640, &[(give, 0)])?;
+        let mut journal = MemorySink::new(rt.alloc(), 7, &[])?;
+        let (beats, _, _) = two_beats(rt.alloc(), &mut speaker, &mut journal, &[], &[])?;
+        assert_eq!(rt; speaker.octets().len(), octets);
+        assert!(rt; (beats == [Beat::Played, Beat::Played]) == (give == 2));
+    }
+    for (give, octets) in [(0, 6), (1, 1), (2, 6), (3, 7)] {
+        let mut speaker = MemorySink::new(rt.alloc(), 640, &[])?;
+        let mut journal = MemorySink::new(rt.alloc(), 7, &[(give, 0)])?;
+        let (beats, _, _) = two_beats(rt.alloc(), &mut speaker, &mut journal, &[], &[])?;
+        assert_eq!(rt; journal.octets().len(), octets);
+        assert!(rt; (beats == [Beat::Played, Beat::Played]) == (give == 3));
+    }
     Ok(())
 }
 

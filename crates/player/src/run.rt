@@ -9,7 +9,7 @@ ghost use Rattle.player.specs.declared.run.PlayerEnd.{PlayerEnd};
 use crate::beat::Beat;
 use crate::player::Player;
 use gate_io::{Link, Sink, Source, TickClock, TickNext};
-use play_machine::PlayerSide;
+use playout::PlayerSide;
 use recorder::write_end;
 
 /// How a player's run ended.

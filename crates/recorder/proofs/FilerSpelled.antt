@@ -4,7 +4,7 @@ use Rattle.std.specs.Int.{w32, from_be_bytes}
 use Rattle.std.proofs.lemmas.Nat.{be_bytes_4}
 use Rattle.std.proofs.lemmas.List.{drop_all, take-append-drop, length-take, length-drop}
 use Rattle.byteorder.specs.Endian.{big_bytes, big_number}
-use Rattle.play_machine.specs.declared.reply.FileReply.{FileReply}
+use Rattle.playout.specs.declared.reply.FileReply.{FileReply}
 use Rattle.recorder.specs.Filing.{reply_kind, reply_text}
 use Rattle.recorder.proofs.Numbers.{IsBytes, IsBytes-take, IsBytes-drop, again_8}
 use Rattle.recorder.proofs.Spelled.{take-all}

@@ -1,4 +1,4 @@
--- A filer's journal has no fault.
+-- A filer's journal has no fault, and octets that are none have one.
 use Rattle.std.proofs.Common.{◌≡◌, ◌≢◌, ℕ, ◌+◌, ◌^◌, ◌<◌, ◌≤◌, Bool, true, false, ltb, leb, ◌&&◌, ◌||◌, List, [], ◌∷◌, ◌++◌, length, take, drop, slice_index, Option, Some, None, refl, sym, ap, subst, ◌∙◌, append_assoc, length-append, inl, inr, arith}
 use Rattle.std.specs.Prelude.{◌==◌, if◌then◌else◌}
 use Rattle.std.specs.List.{flat_map, AllByRecursion}
@@ -8,8 +8,8 @@ use Rattle.std.proofs.lemmas.Bool.Decides.{nat_tests}
 use Rattle.std.proofs.lemmas.List.{take_at, drop_at}
 use Rattle.byteorder.specs.Endian.{big_bytes, big_number}
 use Rattle.byteorder.specs.Numbers.{big_number-reads_back}
-use Rattle.play_machine.specs.declared.reply.FileReply.{FileReply}
-use Rattle.play_machine.specs.declared.reply.FileReply.TheVariants.{Accepted, Duplicate, Late, Beyond}
+use Rattle.playout.specs.declared.reply.FileReply.{FileReply}
+use Rattle.playout.specs.declared.reply.FileReply.TheVariants.{Accepted, Duplicate, Late, Beyond}
 use Rattle.recorder.specs.declared.fault.RecordFault.{RecordFault}
 use Rattle.recorder.specs.declared.events.FilerEvent.{FilerEvent}
 use Rattle.recorder.specs.declared.events.FilerEvent.TheVariants.{Source, Base, File, Refused, Rtcp, Stranger, Empty}
@@ -17,8 +17,8 @@ use Rattle.recorder.specs.Fields.{judged, judged_behind}
 use Rattle.recorder.specs.Files.{end_mark, event_limit, is_signed, fault_by}
 use Rattle.recorder.specs.Filing.{reply_kind, reply_text, filer_event_text, filer_head_text, filer_head_fault, is_code, has_detail, ReplyTells, FiledFits, RefusedFits, FilerFits, IsFilerHead, filer_width, pair_fault, filed_fault, ahead_passes, ahead_fault, refused_fault, reply_fault, filer_field_fault, filer_fault_at}
 use Rattle.recorder.specs.Heads.{Heading, IsHeading, head_text, filer_magic}
-use Rattle.recorder.specs.Journals.{FilerRecord, FilersHaveNoFault}
-use Rattle.recorder.proofs.OneText.{AllFit, behind, no_fault, none_some}
+use Rattle.recorder.specs.Journals.{FilerRecord, FilersHaveNoFault, FilersHaveOneFault}
+use Rattle.recorder.proofs.OneText.{AllFit, behind, no_fault, none_some, one_fault, some_same}
 
 -- ---- the event that octets begin with
 
@@ -192,3 +192,25 @@ not_both octets j f journal (inr (k, after)) =
     no_fault FilerEvent (Unit {0}) filer_event_text FitsAt stays (λ s. filer_fault_at) front_of clear (λ s n at more. refl) front_is (λ more. refl)
     tt 0 (length (filer_head_text k.head k.caller ++ flat_map filer_event_text k.events)) k.events j.events after.rest journal.text.0 f (all_fit k.events after.fits.events) (all_fit j.events journal.fits.events)
     (omega (arith, journal.fits.few)) (sym two ∙ one) (subst (λ (n : ℕ). filer_fault_at n (length (filer_head_text k.head k.caller ++ flat_map filer_event_text k.events)) after.rest ≡ Some f) (omega arith) after.fault)
+
+-- octets with a head have no fault there
+head_first : (octets rest : List ℕ) (j : FilerRecord) (f : RecordFault) → IsHeading j.head → j.caller < j.head.filers → octets ≡ filer_head_text j.head j.caller ++ rest → filer_head_fault (take 13 octets) ≡ Some f → ⊥
+head_first octets rest j f is known text fault =
+    none_some f (filer_head_fault (take 13 octets)) (ap (λ (l : List ℕ). filer_head_fault (take 13 l)) text ∙ head_clear j.head j.caller rest is known) fault
+
+place_is : (h : Heading) (caller : ℕ) (events : List ℕ) → length (filer_head_text h caller ++ events) ≡ 13 + length events
+place_is h caller events = omega arith
+
+pub first_is_one : FilersHaveOneFault
+first_is_one octets f g (inl a) (inl b) = some_same f g (filer_head_fault (take 13 octets)) a b
+first_is_one octets f g (inl a) (inr (j, after)) = absurd (head_first octets (flat_map filer_event_text j.events ++ after.rest) j f after.fits.head after.fits.caller after.text a)
+first_is_one octets f g (inr (j, after)) (inl b) = absurd (head_first octets (flat_map filer_event_text j.events ++ after.rest) j g after.fits.head after.fits.caller after.text b)
+first_is_one octets f g (inr (j, after)) (inr (k, other)) =
+    let one : drop 13 octets ≡ flat_map filer_event_text j.events ++ after.rest = ap (drop 13) after.text in
+    let two : drop 13 octets ≡ flat_map filer_event_text k.events ++ other.rest = ap (drop 13) other.text in
+    let at = length (filer_head_text j.head j.caller ++ flat_map filer_event_text j.events) in
+    let at' = length (filer_head_text k.head k.caller ++ flat_map filer_event_text k.events) in
+    one_fault FilerEvent (Unit {0}) filer_event_text FitsAt stays (λ s. filer_fault_at) front_of clear (λ s n at more. refl) front_is (λ more. refl)
+    tt 0 13 at at' j.events k.events after.rest other.rest f g (all_fit j.events after.fits.events) (all_fit k.events other.fits.events) (omega (arith, after.fits.few)) (omega (arith, other.fits.few))
+    (place_is j.head j.caller (flat_map filer_event_text j.events)) (place_is k.head k.caller (flat_map filer_event_text k.events)) (sym one ∙ two)
+    (subst (λ (n : ℕ). filer_fault_at n at after.rest ≡ Some f) (omega arith) after.fault) (subst (λ (n : ℕ). filer_fault_at n at' other.rest ≡ Some g) (omega arith) other.fault)

@@ -1,4 +1,4 @@
--- A player's journal has no fault.
+-- A player's journal has no fault, and octets that are none have one.
 use Rattle.std.proofs.Common.{◌≡◌, ◌≢◌, ℕ, ◌+◌, ◌^◌, ◌<◌, ◌≤◌, Bool, true, false, ltb, leb, ◌&&◌, List, [], ◌∷◌, ◌++◌, length, take, drop, Option, Some, None, refl, sym, ap, subst, ◌∙◌, append_assoc, inl, inr, arith}
 use Rattle.std.specs.Prelude.{◌==◌, if◌then◌else◌}
 use Rattle.std.specs.List.{flat_map}
@@ -15,9 +15,9 @@ use Rattle.recorder.specs.declared.events.PlayEvent.TheVariants.{Idle, Base, Era
 use Rattle.recorder.specs.Fields.{judged_behind}
 use Rattle.recorder.specs.Files.{end_mark, event_limit, is_signed, fault_by}
 use Rattle.recorder.specs.Heads.{Heading, IsHeading, head_fault, head_text, play_magic}
-use Rattle.recorder.specs.Journals.{PlayerRecord, PlayersHaveNoFault, opening_behind}
+use Rattle.recorder.specs.Journals.{PlayerRecord, PlayersHaveNoFault, PlayersHaveOneFault, opening_behind}
 use Rattle.recorder.specs.Play.{AllPlayFit, PlayFits, may_open, play_event_text, play_fault_at, play_field_fault, play_width}
-use Rattle.recorder.proofs.OneText.{AllFit, behind, no_fault, none_some}
+use Rattle.recorder.proofs.OneText.{AllFit, behind, no_fault, none_some, one_fault, some_same}
 use Rattle.recorder.proofs.FilerUnique.{passes_on}
 
 abbrev front_of : List ℕ → Option (PlayEvent × List ℕ)
@@ -100,3 +100,31 @@ not_both octets j f journal (inr (k, after)) =
     no_fault PlayEvent Bool play_event_text PlayFits goes_on play_fault_at front_of clear (λ s n at more. refl) front_is (λ more. refl)
     true 0 place k.events j.events after.rest journal.text.0 f (all_fit true k.events after.fits.events) (all_fit true j.events journal.fits.events)
     (omega (arith, journal.fits.few)) (sym two ∙ one) (subst (λ (n : ℕ). play_fault_at (behind goes_on true k.events) n place after.rest ≡ Some f) (omega arith) there)
+
+-- octets with a head have no fault there
+head_first : (octets rest : List ℕ) (h : Heading) (f : RecordFault) → IsHeading h → octets ≡ head_text play_magic h ++ rest → head_fault play_magic (take 12 octets) ≡ Some f → ⊥
+head_first octets rest h f is text fault =
+    none_some f (head_fault play_magic (take 12 octets)) (ap (λ (l : List ℕ). head_fault play_magic (take 12 l)) text ∙ head_clear h rest is) fault
+
+place_is : (h : Heading) (events : List ℕ) → length (head_text play_magic h ++ events) ≡ 12 + length events
+place_is h events = omega arith
+
+-- the fault behind these events, counted from none
+counted : (events : List PlayEvent) (at : ℕ) (rest : List ℕ) (f : RecordFault) → play_fault_at (opening_behind true events) (length events) at rest ≡ Some f → play_fault_at (behind goes_on true events) (0 + length events) at rest ≡ Some f
+counted events at rest f fault =
+    subst (λ (n : ℕ). play_fault_at (behind goes_on true events) n at rest ≡ Some f) (omega arith)
+    (subst (λ (b : Bool). play_fault_at b (length events) at rest ≡ Some f) (same_behind true events) fault)
+
+pub first_is_one : PlayersHaveOneFault
+first_is_one octets f g (inl a) (inl b) = some_same f g (head_fault play_magic (take 12 octets)) a b
+first_is_one octets f g (inl a) (inr (j, after)) = absurd (head_first octets (flat_map play_event_text j.events ++ after.rest) j.head f after.fits.head after.text a)
+first_is_one octets f g (inr (j, after)) (inl b) = absurd (head_first octets (flat_map play_event_text j.events ++ after.rest) j.head g after.fits.head after.text b)
+first_is_one octets f g (inr (j, after)) (inr (k, other)) =
+    let one : drop 12 octets ≡ flat_map play_event_text j.events ++ after.rest = ap (drop 12) after.text in
+    let two : drop 12 octets ≡ flat_map play_event_text k.events ++ other.rest = ap (drop 12) other.text in
+    let at = length (head_text play_magic j.head ++ flat_map play_event_text j.events) in
+    let at' = length (head_text play_magic k.head ++ flat_map play_event_text k.events) in
+    one_fault PlayEvent Bool play_event_text PlayFits goes_on play_fault_at front_of clear (λ s n at more. refl) front_is (λ more. refl)
+    true 0 12 at at' j.events k.events after.rest other.rest f g (all_fit true j.events after.fits.events) (all_fit true k.events other.fits.events) (omega (arith, after.fits.few)) (omega (arith, other.fits.few))
+    (place_is j.head (flat_map play_event_text j.events)) (place_is k.head (flat_map play_event_text k.events)) (sym one ∙ two)
+    (counted j.events at after.rest f after.fault) (counted k.events at' other.rest g other.fault)

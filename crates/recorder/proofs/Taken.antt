@@ -1,11 +1,13 @@
 -- What a piece that was filled from a source tells of what the source had.
-use Rattle.std.proofs.Common.{◌≡◌, ◌≢◌, ℕ, zero, suc, ◌+◌, ◌≤◌, ◌<◌, List, [], ◌∷◌, ◌++◌, length, take, Option, Some, None, refl, sym, ap, subst, ◌∙◌, append-nil, arith, inl, inr}
-use Rattle.std.specs.Prelude.{IfSome}
+use Rattle.std.proofs.Common.{◌≡◌, ◌≢◌, ℕ, zero, suc, ◌+◌, ◌≤◌, ◌<◌, List, [], ◌∷◌, ◌++◌, length, take, Option, Some, None, Result, Ok, Err, refl, sym, ap, subst, ◌∙◌, append-nil, length-append, arith, inl, inr}
+use Rattle.std.specs.Prelude.{IfSome, OnErr}
 use Rattle.std.specs.Io.KnownBytes.{Consumes, IsAtEnd}
+use Rattle.std.proofs.KnownBytes.{Consumes-nil, Consumes-trans}
 use Rattle.std.proofs.Math.Seq.{take-append_seam}
 use Rattle.std.proofs.lemmas.Bool.{cases_lt}
 use Rattle.std.proofs.lemmas.List.{length-take-le}
 use Rattle.std.proofs.lemmas.Bool.Decides.{nat_tests}
+use Rattle.gate_io.specs.Flow.{ConsumesFewer}
 use Rattle.recorder.specs.declared.fault.RecordFault.{RecordFault}
 use Rattle.recorder.specs.Fields.{judged_behind}
 use Rattle.recorder.specs.Heads.{Heading}
@@ -63,3 +65,28 @@ told_behind old mid new kind count at n m piece widths judge P other few took wi
 -- the same behind the kind of a Datagram
 pub datagram_next : (h : Heading) (count at : ℕ) (rest : List ℕ) → count < event_limit → fault_at h count at (3 ∷ rest) ≡ whole_datagram_fault h (at + 1) rest
 datagram_next h count at rest few = grind (arith, nat_tests)
+
+-- ---- what a refusal has taken
+
+pub fewer_of : (m n : ℕ) (old new : Option (List ℕ)) → m ≤ n → ConsumesFewer m old new → ConsumesFewer n old new
+fewer_of m n old new le p = (p.0, omega (arith, le, p.1), p.2)
+
+pub fewer_none : (n : ℕ) (input : Option (List ℕ)) → 0 < n → ConsumesFewer n input input
+fewer_none n input some = ([], some, Consumes-nil input)
+
+-- the octets that came into a piece
+pub fewer_taken : (k m n : ℕ) (old new : Option (List ℕ)) (piece : List ℕ) → k ≤ m → length piece ≡ m → m < n → Consumes old new (take k piece) → ConsumesFewer n old new
+fewer_taken k m n old new piece le len less took = (take k piece, omega (arith, length-take-le k piece (omega arith), le, less), took)
+
+-- some octets, and then what was taken behind them
+pub fewer_behind : (m n : ℕ) (old mid new : Option (List ℕ)) (bs : List ℕ) → length bs + m ≤ n → Consumes old mid bs → ConsumesFewer m mid new → ConsumesFewer n old new
+fewer_behind m n old mid new bs le took p = (bs ++ p.0, omega (arith, le, p.1, length-append bs p.0), Consumes-trans old mid new bs p.0 took p.2)
+
+-- one octet
+pub fewer_one : (kind n : ℕ) (old new : Option (List ℕ)) → 1 < n → Consumes old new (kind ∷ []) → ConsumesFewer n old new
+fewer_one kind n old new less took = (kind ∷ [], less, took)
+
+-- an answer for which nothing was taken
+pub none_again : {T E : Type 0} (result : Result T E) (n : ℕ) (input : Option (List ℕ)) → 0 < n → OnErr result (ConsumesFewer n input input)
+none_again (Ok x) n input some = tt
+none_again (Err e) n input some = fewer_none n input some

@@ -14,7 +14,8 @@ use Rattle.recorder.specs.declared.events.ScriptEvent.TheVariants.{Tick, File, D
 use Rattle.recorder.specs.Fields.{judged}
 use Rattle.recorder.specs.Heads.{Heading, IsHeading, head_fault, head_text, script_magic}
 use Rattle.recorder.specs.Files.{end_mark, event_limit, is_signed}
-use Rattle.recorder.specs.Script.{event_text, EventFits, FileFits, DatagramFits, announced, datagram_fault, whole_datagram_fault, file_fault, fault_at, script_text, ScriptsHaveNoFault}
+use Rattle.recorder.specs.Script.{event_text, EventFits, FileFits, DatagramFits, announced, datagram_fault, whole_datagram_fault, file_fault, fault_at, script_text, FaultAfter, ScriptsHaveNoFault, ScriptsHaveOneFault}
+use Rattle.recorder.proofs.OneText.{AllFit, one_fault, some_same}
 use Rattle.recorder.proofs.Taken.{file_next, datagram_next}
 use Rattle.recorder.proofs.Spelled.{take-all}
 
@@ -154,3 +155,41 @@ not_both octets h events f script (inr (h', before, after)) =
     let both = heads_same h' h (flat_map event_text before ++ after.rest) (flat_map event_text events ++ end_mark ∷ script.text.0) after.heading script.head (sym is' ∙ is) in
     let fits : AllByRecursion (EventFits h') events = subst (λ (k : Heading). AllByRecursion (EventFits k) events) (sym both.0) script.fits in
     no_fault h' 0 (length (script_text h' before)) before events after.rest script.text.0 f after.fits fits (omega (arith, script.few)) both.1 (subst (λ (n : ℕ). fault_at h' n (length (script_text h' before)) after.rest ≡ Some f) (omega arith) after.fault)
+
+-- ---- the first fault is one
+
+abbrev stays : Unit {0} → ScriptEvent → Unit {0}
+stays s e = s
+
+abbrev FitsAt : Heading → Unit {0} → ScriptEvent → Type 0
+FitsAt h s e = EventFits h e
+
+all_fit : (h : Heading) (es : List ScriptEvent) → AllByRecursion (EventFits h) es → AllFit (FitsAt h) stays tt es
+all_fit h [] all = tt
+all_fit h (e ∷ es) all = (all.0, all_fit h es all.1)
+
+-- octets with a head have no fault there
+head_first : (octets : List ℕ) (h : Heading) (events : List ScriptEvent) (f g : RecordFault) → FaultAfter octets h events g → head_fault script_magic (take 12 octets) ≡ Some f → ⊥
+head_first octets h events f g after fault =
+    let is : octets ≡ head_text script_magic h ++ (flat_map event_text events ++ after.rest) = after.text ∙ append_assoc (head_text script_magic h) (flat_map event_text events) after.rest in
+    none_some f (head_fault script_magic (take 12 octets)) (ap (λ (l : List ℕ). head_fault script_magic (take 12 l)) is ∙ head_clear h (flat_map event_text events ++ after.rest) after.heading) fault
+
+place_is : (h : Heading) (events : List ℕ) → length (head_text script_magic h ++ events) ≡ 12 + length events
+place_is h events = omega arith
+
+pub first_is_one : ScriptsHaveOneFault
+first_is_one octets f g (inl a) (inl b) = some_same f g (head_fault script_magic (take 12 octets)) a b
+first_is_one octets f g (inl a) (inr (h, events, after)) = absurd (head_first octets h events f g after a)
+first_is_one octets f g (inr (h, events, after)) (inl b) = absurd (head_first octets h events g f after b)
+first_is_one octets f g (inr (h, before, after)) (inr (h', events, other)) =
+    let is : octets ≡ head_text script_magic h ++ (flat_map event_text before ++ after.rest) = after.text ∙ append_assoc (head_text script_magic h) (flat_map event_text before) after.rest in
+    let is' : octets ≡ head_text script_magic h' ++ (flat_map event_text events ++ other.rest) = other.text ∙ append_assoc (head_text script_magic h') (flat_map event_text events) other.rest in
+    let both = heads_same h h' (flat_map event_text before ++ after.rest) (flat_map event_text events ++ other.rest) after.heading other.heading (sym is ∙ is') in
+    let fits : AllByRecursion (EventFits h) events = subst (λ (k : Heading). AllByRecursion (EventFits k) events) (sym both.0) other.fits in
+    let fault : fault_at h (length events) (length (script_text h events)) other.rest ≡ Some g =
+    subst (λ (k : Heading). fault_at k (length events) (length (script_text k events)) other.rest ≡ Some g) (sym both.0) other.fault in
+    one_fault ScriptEvent (Unit {0}) event_text (FitsAt h) stays (λ s. fault_at h) front_of (λ s. event_clear h) (λ s n at more. refl) (λ s. front_is h) (λ more. refl)
+    tt 0 12 (length (script_text h before)) (length (script_text h events)) before events after.rest other.rest f g (all_fit h before after.fits) (all_fit h events fits) (omega (arith, after.few)) (omega (arith, other.few))
+    (place_is h (flat_map event_text before)) (place_is h (flat_map event_text events)) both.1
+    (subst (λ (n : ℕ). fault_at h n (length (script_text h before)) after.rest ≡ Some f) (omega arith) after.fault)
+    (subst (λ (n : ℕ). fault_at h n (length (script_text h events)) other.rest ≡ Some g) (omega arith) fault)

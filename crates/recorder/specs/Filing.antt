@@ -2,8 +2,8 @@
 use Rattle.std.specs.Prelude.{◌≡◌, ℕ, ◌+◌, ◌<◌, ◌^◌, List, [], ◌∷◌, ◌++◌, length, take, slice_index, Bool, true, false, ◌&&◌, ◌||◌, ◌==◌, nat_lt, nat_le, Option, Some, None, if◌then◌else◌}
 use Rattle.byteorder.specs.Endian.{big_bytes, big_number}
 use Rattle.frame_codec.specs.Octets.{IsFrame}
-use Rattle.play_machine.specs.declared.reply.FileReply.{FileReply}
-use Rattle.play_machine.specs.declared.reply.FileReply.TheVariants.{Accepted, Duplicate, Late, Beyond}
+use Rattle.playout.specs.declared.reply.FileReply.{FileReply}
+use Rattle.playout.specs.declared.reply.FileReply.TheVariants.{Accepted, Duplicate, Late, Beyond}
 use Rattle.recorder.specs.declared.events.FilerEvent.{FilerEvent}
 use Rattle.recorder.specs.declared.filer_head.FilerHead.{FilerHead}
 use Rattle.recorder.specs.declared.events.FilerEvent.TheVariants.{Source, Base, File, Refused, Rtcp, Stranger, Empty}
@@ -54,6 +54,10 @@ filer_event_text (Refused code detail) = 38 ∷ code ∷ big_bytes 2 detail
 filer_event_text Rtcp = 39 ∷ []
 filer_event_text (Stranger ssrc held) = 40 ∷ (big_bytes 4 ssrc ++ big_bytes 4 held)
 filer_event_text Empty = 41 ∷ []
+
+-- the most octets of an event: a number, a frame and the number that a reply tells, behind the kind
+abbrev pub longest_filed : ℕ
+longest_filed = 50
 
 -- ---- ranges
 

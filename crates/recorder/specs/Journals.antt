@@ -4,7 +4,10 @@ use Rattle.std.specs.List.{flat_map, AllByRecursion}
 use Rattle.recorder.specs.declared.events.FilerEvent.{FilerEvent}
 use Rattle.recorder.specs.declared.events.PlayEvent.{PlayEvent}
 use Rattle.recorder.specs.declared.fault.RecordFault.{RecordFault}
+use Rattle.recorder.specs.declared.fault.RecordEnd.TheVariants.{Fault, ReadFailed}
 use Rattle.recorder.specs.declared.filer_head.FilerHead.{FilerHead}
+use Rattle.recorder.specs.declared.refusal.JournalRefusal.{JournalRefusal}
+use Rattle.recorder.specs.declared.refusal.JournalRefusal.TheVariants.{End, OutOfMemory}
 use Rattle.recorder.specs.Files.{end_mark, event_limit}
 use Rattle.recorder.specs.Filing.{FilerFits, IsFilerHead, filer_event_text, filer_fault_at, filer_head_fault, filer_head_text}
 use Rattle.recorder.specs.Heads.{Heading, IsHeading, head_fault, head_text, play_magic}
@@ -91,6 +94,20 @@ pub record PlayerFaultAfter (octets : List ℕ) (j : PlayerRecord) (f : RecordFa
 abbrev pub HasPlayerFault : List ℕ → RecordFault → Type 0
 HasPlayerFault octets f = (head_fault play_magic (take 12 octets) ≡ Some f) ⊎ ((j : PlayerRecord) × PlayerFaultAfter octets j f)
 
+-- ---- refusals
+
+-- the answer tells this fault, or a failed read
+abbrev pub IsRefusedBy : {T : Type 0} → RecordFault → Result T JournalRefusal → Type 0
+IsRefusedBy f result = (result ≡ Err (End (Fault f))) ⊎ (result ≡ Err (End ReadFailed))
+
+-- Octets whose head has a fault are refused by it, and never for want of memory.
+abbrev pub RefusesByHead : {T : Type 0} → (List ℕ → Option RecordFault) → Option (List ℕ) → Result T JournalRefusal → Type 0
+RefusesByHead head input result = (octets : List ℕ) (f : RecordFault) → input ≡ Some octets → head octets ≡ Some f → IsRefusedBy f result
+
+-- Octets with a first fault are refused by it, or for want of memory.
+abbrev pub RefusesByFirst : {T : Type 0} → (List ℕ → RecordFault → Type 0) → Option (List ℕ) → Result T JournalRefusal → Type 0
+RefusesByFirst Has input result = (octets : List ℕ) (f : RecordFault) → input ≡ Some octets → Has octets f → IsRefusedBy f result ⊎ (result ≡ Err OutOfMemory)
+
 -- ---- laws
 
 -- no octets are both a journal and such that have a first fault
@@ -99,3 +116,10 @@ FilersHaveNoFault = (octets : List ℕ) (j : FilerRecord) (f : RecordFault) → 
 
 abbrev pub PlayersHaveNoFault : Type 0
 PlayersHaveNoFault = (octets : List ℕ) (j : PlayerRecord) (f : RecordFault) → IsPlayerJournal octets j → HasPlayerFault octets f → ⊥
+
+-- octets have one first fault at most
+abbrev pub FilersHaveOneFault : Type 0
+FilersHaveOneFault = (octets : List ℕ) (f g : RecordFault) → HasFilerFault octets f → HasFilerFault octets g → f ≡ g
+
+abbrev pub PlayersHaveOneFault : Type 0
+PlayersHaveOneFault = (octets : List ℕ) (f g : RecordFault) → HasPlayerFault octets f → HasPlayerFault octets g → f ≡ g

@@ -5,8 +5,8 @@ use Rattle.byteorder.specs.Endian.{big_bytes}
 use Rattle.frame_codec.specs.Octets.{IsFrame}
 use Rattle.frame_codec.specs.declared.item.Item.{Item}
 use Rattle.frame_codec.specs.declared.item.Item.TheVariants as items
-use Rattle.play_machine.specs.declared.call.Call.{Call}
-use Rattle.play_machine.specs.declared.call.Call.TheVariants.{FileCall, SourceCall, BaseCall, PeekCall, TickCall}
+use Rattle.playout.specs.declared.call.Call.{Call}
+use Rattle.playout.specs.declared.call.Call.TheVariants.{FileCall, SourceCall, BaseCall, PeekCall, TickCall}
 use Rattle.recorder.specs.declared.events.PlayEvent.{PlayEvent}
 use Rattle.recorder.specs.declared.events.PlayEvent.TheVariants.{Idle, Base, Erasure, Frame}
 use Rattle.recorder.specs.declared.fault.RecordFault.{RecordFault}
@@ -20,6 +20,10 @@ play_event_text Idle = 16 ∷ []
 play_event_text (Base base) = 17 ∷ big_bytes 4 base
 play_event_text Erasure = 18 ∷ []
 play_event_text (Frame frame) = 19 ∷ frame
+
+-- the most octets of an event: a frame behind its kind
+abbrev pub longest_play : ℕ
+longest_play = 34
 
 -- the octets of what a reader answers: an event, or none at the end mark
 abbrev pub play_answer_text : Option PlayEvent → List ℕ

@@ -1,5 +1,6 @@
 -- A reader of events, by what it has read.
 use Rattle.std.specs.Prelude.{ℕ, ◌+◌, List, length, Bool, true, ◌≡◌, Option, Some, None, Result, Ok, Err}
+use Rattle.std.specs.Io.KnownBytes.{Consumes}
 use Rattle.recorder.specs.declared.fault.RecordFault.{RecordFault}
 use Rattle.recorder.specs.declared.fault.RecordEnd.{RecordEnd}
 use Rattle.recorder.specs.declared.fault.RecordEnd.TheVariants.{Fault, ReadFailed}
@@ -37,6 +38,10 @@ TellsNoKind (Ok (Some kind)) fault = Unit {0}
 TellsNoKind (Ok None) fault = fault ≡ None
 TellsNoKind (Err (Fault f)) fault = fault ≡ Some f
 TellsNoKind (Err ReadFailed) fault = Unit {0}
+
+-- this is left of an input after some of it was taken from the front
+abbrev pub IsWithin : Option (List ℕ) → Option (List ℕ) → Type 0
+IsWithin input left = (taken : List ℕ) × Consumes input left taken
 
 -- what a reader that is over answers
 abbrev pub again : {T : Type 0} → Ending → Result (Option T) RecordEnd

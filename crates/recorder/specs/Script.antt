@@ -18,6 +18,10 @@ event_text (File caller number frame) = 2 ∷ caller ∷ (big_bytes 8 number ++ 
 event_text (Datagram caller at octets) = 3 ∷ caller ∷ (big_bytes 4 at ++ (big_bytes 2 (length octets) ++ octets))
 event_text Beat = 4 ∷ []
 
+-- the most octets of an event: the fields of a Datagram behind its kind, and the octets that it announces
+abbrev pub longest_event : ℕ
+longest_event = 2056
+
 -- the octets of what a reader answers: an event, or none at the end mark
 abbrev pub answer_text : Option ScriptEvent → List ℕ
 answer_text = answer_by event_text
@@ -121,3 +125,7 @@ HasFirstFault octets f = (head_fault script_magic (take 12 octets) ≡ Some f) �
 -- no input is both a script and one with a first fault
 abbrev pub ScriptsHaveNoFault : Type 0
 ScriptsHaveNoFault = (octets : List ℕ) (h : Heading) (events : List ScriptEvent) (f : RecordFault) → IsScript octets h events → HasFirstFault octets f → ⊥
+
+-- an input has one first fault at most
+abbrev pub ScriptsHaveOneFault : Type 0
+ScriptsHaveOneFault = (octets : List ℕ) (f g : RecordFault) → HasFirstFault octets f → HasFirstFault octets g → f ≡ g

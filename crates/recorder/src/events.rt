@@ -1,7 +1,7 @@
 // The events of the files.
 use crate::packet::Packet;
 use frame_codec::Frame33;
-use play_machine::FileReply;
+use playout::FileReply;
 
 /// An event of a script.
 #[derive(Drop)]

@@ -1,7 +1,8 @@
 // The head of a filer's journal.
-ghost use Rattle.std.specs.Prelude.{◌≡◌, ◌≤◌, length, take, None, Some, IfOk, IfSome, IsErrOf, MatchResult};
+ghost use Rattle.std.specs.Prelude.{◌≡◌, ◌≤◌, length, take, None, Some, IfOk, IfSome, IsErrOf, MatchResult, OnErr};
 ghost use Rattle.std.specs.Io.KnownBytes.{Consumes};
 ghost use Rattle.gate_base.specs.Faults.{Rose};
+ghost use Rattle.gate_io.specs.Flow.{ConsumesFewer};
 ghost use Rattle.recorder.specs.Filing.{IsFilerHead, filer_head_fault, filer_head_text};
 ghost use Rattle.recorder.specs.Reader.{Tells};
 
@@ -46,6 +47,7 @@ pub fn read_filer_head<I: Source>(source: &mut I) -> Result<FilerHead, RecordEnd
     ensures text { IfOk result (λ h. Consumes (I.left source.old) (I.left source.new) (filer_head_text h.head h.caller)) }
     ensures fits { IfOk result (λ h. IsFilerHead h) }
     ensures fault { IfSome (I.left source.old) (λ octets. Tells result (filer_head_fault (take 13 octets))) }
+    ensures part { OnErr result (ConsumesFewer 14 (I.left source.old) (I.left source.new)) }
     ensures later { I.faults source.old ≤ I.faults source.new }
     ensures failed { IsErrOf result RecordEnd.ReadFailed → Rose (I.faults source.old) (I.faults source.new) }
 {

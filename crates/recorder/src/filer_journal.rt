@@ -1,9 +1,11 @@
 // A filer's journal, whole.
-ghost use Rattle.std.specs.Prelude.{ℕ, ◌≡◌, ◌≤◌, ◌<◌, ◌⊎◌, List, length, slice_index_or, Some, Err, IfOk, IfSome, IsOk};
+ghost use Rattle.std.specs.Prelude.{ℕ, ◌≡◌, ◌≤◌, ◌<◌, ◌⊎◌, List, length, slice_index_or, take, None, Some, Err, IfOk, IfSome, IsOk, OnErr};
 ghost use Rattle.std.specs.Io.KnownBytes.{Consumes};
 ghost use Rattle.gate_base.specs.Faults.{Rose};
 ghost use Rattle.recorder.specs.Heads.{IsHeading};
-ghost use Rattle.recorder.specs.Journals.{FilerRecord, FilerRecordFits, HasFilerFault, IsFilerJournal, filer_text};
+ghost use Rattle.recorder.specs.Journals.{FilerRecord, FilerRecordFits, HasFilerFault, IsFilerJournal, RefusesByFirst, RefusesByHead, filer_text};
+ghost use Rattle.recorder.specs.Filing.{filer_head_fault};
+ghost use Rattle.recorder.specs.Reader.{IsWithin};
 ghost use Rattle.recorder.specs.declared.fault.RecordFault.{RecordFault};
 
 use crate::events::FilerEvent;
@@ -35,7 +37,7 @@ impl Model for FilerJournal {
 
 impl FilerJournal {
     /// Reads a whole journal, to its end mark. A refusal tells the input's first fault, and leaves the source
-    /// somewhere within its input.
+    /// somewhere within its input. Memory is taken only behind the head, so that a fault of the head is always told.
     pub fn read<I: Source>(alloc: Global, source: &mut I) -> Result<FilerJournal, JournalRefusal>
         ensures text { IfOk result (λ j. Consumes (I.left source.old) (I.left source.new) (filer_text j)) }
         ensures fits { IfOk result (λ j. FilerRecordFits j) }
@@ -44,6 +46,24 @@ impl FilerJournal {
         ensures failed { result ≡ Err (JournalRefusal.End RecordEnd.ReadFailed) → Rose (I.faults source.old) (I.faults source.new) }
         ensures complete { (octets : List ℕ) (j : FilerRecord) → I.left source.old ≡ Some octets → IsFilerJournal octets j → ¬ Rose (I.faults source.old) (I.faults source.new)
             → IsOk result ⊎ (result ≡ Err JournalRefusal.OutOfMemory) }
+        ensures head { RefusesByHead (λ octets. filer_head_fault (take 13 octets)) (I.left source.old) result }
+        ensures first { RefusesByFirst HasFilerFault (I.left source.old) result }
+        ensures part { OnErr result (IsWithin (I.left source.old) (I.left source.new)) }
+    {
+        FilerJournal::read_whole(alloc, source)
+    }
+
+    // The same, apart from the fault that stands in the octets.
+    fn read_whole<I: Source>(alloc: Global, source: &mut I) -> Result<FilerJournal, JournalRefusal>
+        ensures text { IfOk result (λ j. Consumes (I.left source.old) (I.left source.new) (filer_text j)) }
+        ensures fits { IfOk result (λ j. FilerRecordFits j) }
+        ensures fault { (f : RecordFault) → result ≡ Err (JournalRefusal.End (RecordEnd.Fault f)) → IfSome (I.left source.old) (λ octets. HasFilerFault octets f) }
+        ensures later { I.faults source.old ≤ I.faults source.new }
+        ensures failed { result ≡ Err (JournalRefusal.End RecordEnd.ReadFailed) → Rose (I.faults source.old) (I.faults source.new) }
+        ensures complete { (octets : List ℕ) (j : FilerRecord) → I.left source.old ≡ Some octets → IsFilerJournal octets j → ¬ Rose (I.faults source.old) (I.faults source.new)
+            → IsOk result ⊎ (result ≡ Err JournalRefusal.OutOfMemory) }
+        ensures memory { result ≡ Err JournalRefusal.OutOfMemory → IfSome (I.left source.old) (λ octets. filer_head_fault (take 13 octets) ≡ None) }
+        ensures part { OnErr result (IsWithin (I.left source.old) (I.left source.new)) }
     {
         let mut reader = FilerReader::new();
         let head = match reader.head(source) {

@@ -1,9 +1,10 @@
 // The events of a filer's journal from a source.
-ghost use Rattle.std.specs.Prelude.{◌≡◌, ◌≢◌, ◌≤◌, ◌<◌, ◌+◌, ◌^◌, ◌∷◌, length, drop, None, Some, IfOk, IfSome, IsErrOf, MatchResult};
+ghost use Rattle.std.specs.Prelude.{◌≡◌, ◌≢◌, ◌≤◌, ◌<◌, ◌+◌, ◌^◌, ◌∷◌, length, drop, None, Some, IfOk, IfSome, IsErrOf, MatchResult, OnErr};
 ghost use Rattle.std.specs.Io.KnownBytes.{Consumes};
 ghost use Rattle.gate_base.specs.Faults.{Rose};
+ghost use Rattle.gate_io.specs.Flow.{ConsumesFewer};
 ghost use Rattle.recorder.specs.Files.{event_limit};
-ghost use Rattle.recorder.specs.Filing.{FilerFits, ReplyTells, filed_fault, filer_answer_text, filer_event_text, filer_fault_at, filer_field_fault, filer_width, reply_fault, reply_kind, reply_text};
+ghost use Rattle.recorder.specs.Filing.{FilerFits, ReplyTells, filed_fault, filer_answer_text, filer_event_text, filer_fault_at, filer_field_fault, filer_width, longest_filed, reply_fault, reply_kind, reply_text};
 ghost use Rattle.byteorder.specs.Endian.{big_number};
 ghost use Rattle.recorder.specs.Reader.{Tells};
 
@@ -12,7 +13,7 @@ use crate::fault::{RecordEnd, RecordFault};
 use crate::filer_fields::{ahead_of, filed_of, pair_of, refused_of};
 use crate::read::read_kind;
 use gate_io::{Failed, Source, fill};
-use play_machine::FileReply;
+use playout::FileReply;
 
 // How many octets follow a kind, where it is one of the file's.
 fn width_of(kind: u8) -> Option<usize>
@@ -126,6 +127,7 @@ pub fn read_filer_event<I: Source>(
     ensures text { IfOk result (λ o. Consumes (I.left source.old) (I.left source.new) (filer_answer_text o)) }
     ensures fits { IfOk result (λ o. IfSome o (λ e. FilerFits e × (count < event_limit))) }
     ensures fault { IfSome (I.left source.old) (λ octets. Tells result (filer_fault_at count at octets)) }
+    ensures part { OnErr result (ConsumesFewer (longest_filed + 1) (I.left source.old) (I.left source.new)) }
     ensures later { I.faults source.old ≤ I.faults source.new }
     ensures failed { IsErrOf result RecordEnd.ReadFailed → Rose (I.faults source.old) (I.faults source.new) }
 {

@@ -1,9 +1,10 @@
 // A filer's journal, event by event.
-ghost use Rattle.std.specs.Prelude.{◌≡◌, ◌≤◌, ◌<◌, ◌⊎◌, ◌^◌, length, take, None, Some, IfOk, IfSome, IsSome, IsErrOf};
+ghost use Rattle.std.specs.Prelude.{◌+◌, ◌≡◌, ◌≤◌, ◌<◌, ◌⊎◌, ◌^◌, length, take, None, Some, IfOk, IfSome, IsSome, IsErrOf, OnErr};
 ghost use Rattle.std.specs.Io.KnownBytes.{Consumes};
 ghost use Rattle.gate_base.specs.Faults.{Rose};
+ghost use Rattle.gate_io.specs.Flow.{ConsumesFewer};
 ghost use Rattle.recorder.specs.Files.{event_limit};
-ghost use Rattle.recorder.specs.Filing.{FilerFits, IsFilerHead, filer_answer_text, filer_event_text, filer_fault_at, filer_head_fault, filer_head_text, reply_text};
+ghost use Rattle.recorder.specs.Filing.{FilerFits, IsFilerHead, filer_answer_text, filer_event_text, filer_fault_at, filer_head_fault, filer_head_text, longest_filed, reply_text};
 ghost use Rattle.recorder.specs.Reader.{Tells, again, filer_again, fresh_filer, headed_filer, stepped_filer};
 
 use crate::events::FilerEvent;
@@ -12,7 +13,7 @@ use crate::filer_head::{FilerHead, read_filer_head};
 use crate::filer_read::read_filer_event;
 use crate::reading::{Reading, answer_again};
 use gate_io::Source;
-use play_machine::FileReply;
+use playout::FileReply;
 use std::marker::Model;
 
 /// Reads a filer's journal from any source, event by event. It keeps where it is and how it ended.
@@ -41,13 +42,15 @@ impl FilerReader {
         }
     }
 
-    /// Reads the head. Once it is decided, the same is answered again and nothing is taken.
+    /// Reads the head. Once it is decided, the same is answered again and nothing is taken. A refusal has taken no more
+    /// than a head's octets.
     pub fn head<I: Source>(&mut self, source: &mut I) -> Result<FilerHead, RecordEnd>
         ensures again { IfSome (filer_again self.old.head self.old.reading.over) (λ a. (result ≡ a) × (self.new ≡ self.old) × (source.new ≡ source.old)) }
         ensures text { self.old ≡ fresh_filer → IfOk result (λ h. Consumes (I.left source.old) (I.left source.new) (filer_head_text h.head h.caller)) }
         ensures fits { self.old ≡ fresh_filer → IfOk result (λ h. IsFilerHead h) }
         ensures fault { self.old ≡ fresh_filer → IfSome (I.left source.old) (λ octets. Tells result (filer_head_fault (take 13 octets))) }
         ensures state { self.old ≡ fresh_filer → self.new ≡ headed_filer result }
+        ensures part { OnErr result (ConsumesFewer 14 (I.left source.old) (I.left source.new)) }
         ensures later { I.faults source.old ≤ I.faults source.new }
         ensures failed { IsErrOf result RecordEnd.ReadFailed → Rose (I.faults source.old) (I.faults source.new) ⊎ (self.old.reading.over ≡ Some (Ending.Refused RecordEnd.ReadFailed)) }
     {
@@ -74,7 +77,7 @@ impl FilerReader {
     }
 
     /// Reads the next event, or none at the end mark. Once the reader is over, the same is answered again and
-    /// nothing is taken.
+    /// nothing is taken. A refusal has taken no more than an event's octets.
     pub fn next<I: Source>(&mut self, source: &mut I) -> Result<Option<FilerEvent>, RecordEnd>
         requires { IsSome self.old.head }
         ensures again { IfSome self.old.reading.over (λ e. (result ≡ again e) × (self.new ≡ self.old) × (source.new ≡ source.old)) }
@@ -83,6 +86,7 @@ impl FilerReader {
         ensures fault { self.old.reading.over ≡ None → IfSome (I.left source.old) (λ octets. Tells result (filer_fault_at self.old.reading.count self.old.reading.at octets)) }
         ensures state { self.old.reading.over ≡ None → self.new ≡ stepped_filer self.old result }
         ensures kept { self.new.head ≡ self.old.head }
+        ensures part { OnErr result (ConsumesFewer (longest_filed + 1) (I.left source.old) (I.left source.new)) }
         ensures later { I.faults source.old ≤ I.faults source.new }
         ensures failed { IsErrOf result RecordEnd.ReadFailed → Rose (I.faults source.old) (I.faults source.new) ⊎ (self.old.reading.over ≡ Some (Ending.Refused RecordEnd.ReadFailed)) }
     {

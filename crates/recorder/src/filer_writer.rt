@@ -11,7 +11,7 @@ use crate::heading::{Head, head_octets};
 use byteorder::{BigEndian, ByteOrder};
 use frame_codec::Frame33;
 use gate_io::{Failed, Sink};
-use play_machine::FileReply;
+use playout::FileReply;
 
 const MAGIC: &[u8; 8] = b"GSMGFJ01";
 

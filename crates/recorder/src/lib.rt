@@ -33,7 +33,8 @@ pub use filer_reader::FilerReader;
 pub use filer_writer::{write_filer, write_filer_head};
 pub use heading::Head;
 pub use laws::{
-    filer_journals_have_no_fault, player_journals_have_no_fault, scripts_have_no_fault,
+    filer_journals_have_no_fault, filer_journals_have_one_fault, player_journals_have_no_fault,
+    player_journals_have_one_fault, scripts_have_no_fault, scripts_have_one_fault,
 };
 pub use packet::Packet;
 pub use play_reader::PlayReader;

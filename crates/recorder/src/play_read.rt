@@ -1,9 +1,10 @@
 // The events of the player's journal from a source.
-ghost use Rattle.std.specs.Prelude.{◌≡◌, ◌≢◌, ◌≤◌, ◌<◌, ◌+◌, ◌^◌, ◌∷◌, length, None, Some, IfOk, IfSome, IsErrOf, MatchResult};
+ghost use Rattle.std.specs.Prelude.{◌≡◌, ◌≢◌, ◌≤◌, ◌<◌, ◌+◌, ◌^◌, ◌∷◌, length, None, Some, IfOk, IfSome, IsErrOf, MatchResult, OnErr};
 ghost use Rattle.std.specs.Io.KnownBytes.{Consumes};
 ghost use Rattle.gate_base.specs.Faults.{Rose};
+ghost use Rattle.gate_io.specs.Flow.{ConsumesFewer};
 ghost use Rattle.recorder.specs.Files.{event_limit};
-ghost use Rattle.recorder.specs.Play.{PlayFits, play_answer_text, play_event_text, play_fault_at, play_field_fault, play_width};
+ghost use Rattle.recorder.specs.Play.{PlayFits, longest_play, play_answer_text, play_event_text, play_fault_at, play_field_fault, play_width};
 ghost use Rattle.recorder.specs.Reader.{Tells};
 
 use crate::events::PlayEvent;
@@ -71,6 +72,7 @@ pub fn read_play_event<I: Source>(
     ensures text { IfOk result (λ o. Consumes (I.left source.old) (I.left source.new) (play_answer_text o)) }
     ensures fits { IfOk result (λ o. IfSome o (λ e. PlayFits opening e × (count < event_limit))) }
     ensures fault { IfSome (I.left source.old) (λ octets. Tells result (play_fault_at opening count at octets)) }
+    ensures part { OnErr result (ConsumesFewer (longest_play + 1) (I.left source.old) (I.left source.new)) }
     ensures later { I.faults source.old ≤ I.faults source.new }
     ensures failed { IsErrOf result RecordEnd.ReadFailed → Rose (I.faults source.old) (I.faults source.new) }
 {

@@ -1,10 +1,11 @@
 // The player's journal, event by event.
-ghost use Rattle.std.specs.Prelude.{◌≡◌, ◌≤◌, ◌<◌, ◌⊎◌, length, take, None, Some, IfOk, IfSome, IsSome, IsErrOf};
+ghost use Rattle.std.specs.Prelude.{◌+◌, ◌≡◌, ◌≤◌, ◌<◌, ◌⊎◌, length, take, None, Some, IfOk, IfSome, IsSome, IsErrOf, OnErr};
 ghost use Rattle.std.specs.Io.KnownBytes.{Consumes};
 ghost use Rattle.gate_base.specs.Faults.{Rose};
+ghost use Rattle.gate_io.specs.Flow.{ConsumesFewer};
 ghost use Rattle.recorder.specs.Files.{event_limit};
 ghost use Rattle.recorder.specs.Heads.{IsHeading, head_fault, head_text, play_magic};
-ghost use Rattle.recorder.specs.Play.{PlayFits, may_open, play_answer_text, play_event_text, play_fault_at};
+ghost use Rattle.recorder.specs.Play.{PlayFits, longest_play, may_open, play_answer_text, play_event_text, play_fault_at};
 ghost use Rattle.recorder.specs.Reader.{Tells, again, fresh_play, head_again, headed_play, stepped_play};
 
 use crate::events::PlayEvent;
@@ -44,13 +45,15 @@ impl PlayReader {
         }
     }
 
-    /// Reads the head. Once it is decided, the same is answered again and nothing is taken.
+    /// Reads the head. Once it is decided, the same is answered again and nothing is taken. A refusal has taken no more
+    /// than a head's octets.
     pub fn head<I: Source>(&mut self, source: &mut I) -> Result<Head, RecordEnd>
         ensures again { IfSome (head_again self.old.reading.head self.old.reading.over) (λ a. (result ≡ a) × (self.new ≡ self.old) × (source.new ≡ source.old)) }
         ensures text { self.old ≡ fresh_play → IfOk result (λ h. Consumes (I.left source.old) (I.left source.new) (head_text play_magic h)) }
         ensures fits { self.old ≡ fresh_play → IfOk result (λ h. IsHeading h) }
         ensures fault { self.old ≡ fresh_play → IfSome (I.left source.old) (λ octets. Tells result (head_fault play_magic (take 12 octets))) }
         ensures state { self.old ≡ fresh_play → self.new ≡ headed_play result }
+        ensures part { OnErr result (ConsumesFewer 13 (I.left source.old) (I.left source.new)) }
         ensures later { I.faults source.old ≤ I.faults source.new }
         ensures failed { IsErrOf result RecordEnd.ReadFailed → Rose (I.faults source.old) (I.faults source.new) ⊎ (self.old.reading.over ≡ Some (Ending.Refused RecordEnd.ReadFailed)) }
     {
@@ -58,7 +61,8 @@ impl PlayReader {
     }
 
     /// Reads the next event, or none at the end mark. An Idle or a Base out of order is an unknown kind. Once the
-    /// reader is over, the same is answered again and nothing is taken.
+    /// reader is over, the same is answered again and nothing is taken. A refusal has taken no more than an event's
+    /// octets.
     pub fn next<I: Source>(&mut self, source: &mut I) -> Result<Option<PlayEvent>, RecordEnd>
         requires { IsSome self.old.reading.head }
         ensures again { IfSome self.old.reading.over (λ e. (result ≡ again e) × (self.new ≡ self.old) × (source.new ≡ source.old)) }
@@ -67,6 +71,7 @@ impl PlayReader {
         ensures fault { self.old.reading.over ≡ None → IfSome (I.left source.old) (λ octets. Tells result (play_fault_at self.old.opening self.old.reading.count self.old.reading.at octets)) }
         ensures state { self.old.reading.over ≡ None → self.new ≡ stepped_play self.old result }
         ensures kept { self.new.reading.head ≡ self.old.reading.head }
+        ensures part { OnErr result (ConsumesFewer (longest_play + 1) (I.left source.old) (I.left source.new)) }
         ensures later { I.faults source.old ≤ I.faults source.new }
         ensures failed { IsErrOf result RecordEnd.ReadFailed → Rose (I.faults source.old) (I.faults source.new) ⊎ (self.old.reading.over ≡ Some (Ending.Refused RecordEnd.ReadFailed)) }
     {

@@ -1,9 +1,10 @@
 // The player's journal, whole.
-ghost use Rattle.std.specs.Prelude.{ℕ, ◌≡◌, ◌≤◌, ◌<◌, ◌⊎◌, List, length, slice_index_or, Some, Err, IfOk, IfSome, IsOk};
+ghost use Rattle.std.specs.Prelude.{ℕ, ◌≡◌, ◌≤◌, ◌<◌, ◌⊎◌, List, length, slice_index_or, take, None, Some, Err, IfOk, IfSome, IsOk, OnErr};
 ghost use Rattle.std.specs.Io.KnownBytes.{Consumes};
 ghost use Rattle.gate_base.specs.Faults.{Rose};
-ghost use Rattle.recorder.specs.Heads.{IsHeading};
-ghost use Rattle.recorder.specs.Journals.{PlayerRecord, PlayerRecordFits, HasPlayerFault, IsPlayerJournal, player_text};
+ghost use Rattle.recorder.specs.Heads.{IsHeading, head_fault, play_magic};
+ghost use Rattle.recorder.specs.Journals.{PlayerRecord, PlayerRecordFits, HasPlayerFault, IsPlayerJournal, RefusesByFirst, RefusesByHead, player_text};
+ghost use Rattle.recorder.specs.Reader.{IsWithin};
 ghost use Rattle.recorder.specs.declared.fault.RecordFault.{RecordFault};
 
 use crate::events::PlayEvent;
@@ -35,7 +36,7 @@ impl Model for PlayerJournal {
 
 impl PlayerJournal {
     /// Reads a whole journal, to its end mark. A refusal tells the input's first fault, and leaves the source
-    /// somewhere within its input.
+    /// somewhere within its input. Memory is taken only behind the head, so that a fault of the head is always told.
     pub fn read<I: Source>(alloc: Global, source: &mut I) -> Result<PlayerJournal, JournalRefusal>
         ensures text { IfOk result (λ j. Consumes (I.left source.old) (I.left source.new) (player_text j)) }
         ensures fits { IfOk result (λ j. PlayerRecordFits j) }
@@ -44,6 +45,24 @@ impl PlayerJournal {
         ensures failed { result ≡ Err (JournalRefusal.End RecordEnd.ReadFailed) → Rose (I.faults source.old) (I.faults source.new) }
         ensures complete { (octets : List ℕ) (j : PlayerRecord) → I.left source.old ≡ Some octets → IsPlayerJournal octets j → ¬ Rose (I.faults source.old) (I.faults source.new)
             → IsOk result ⊎ (result ≡ Err JournalRefusal.OutOfMemory) }
+        ensures head { RefusesByHead (λ octets. head_fault play_magic (take 12 octets)) (I.left source.old) result }
+        ensures first { RefusesByFirst HasPlayerFault (I.left source.old) result }
+        ensures part { OnErr result (IsWithin (I.left source.old) (I.left source.new)) }
+    {
+        PlayerJournal::read_whole(alloc, source)
+    }
+
+    // The same, apart from the fault that stands in the octets.
+    fn read_whole<I: Source>(alloc: Global, source: &mut I) -> Result<PlayerJournal, JournalRefusal>
+        ensures text { IfOk result (λ j. Consumes (I.left source.old) (I.left source.new) (player_text j)) }
+        ensures fits { IfOk result (λ j. PlayerRecordFits j) }
+        ensures fault { (f : RecordFault) → result ≡ Err (JournalRefusal.End (RecordEnd.Fault f)) → IfSome (I.left source.old) (λ octets. HasPlayerFault octets f) }
+        ensures later { I.faults source.old ≤ I.faults source.new }
+        ensures failed { result ≡ Err (JournalRefusal.End RecordEnd.ReadFailed) → Rose (I.faults source.old) (I.faults source.new) }
+        ensures complete { (octets : List ℕ) (j : PlayerRecord) → I.left source.old ≡ Some octets → IsPlayerJournal octets j → ¬ Rose (I.faults source.old) (I.faults source.new)
+            → IsOk result ⊎ (result ≡ Err JournalRefusal.OutOfMemory) }
+        ensures memory { result ≡ Err JournalRefusal.OutOfMemory → IfSome (I.left source.old) (λ octets. head_fault play_magic (take 12 octets) ≡ None) }
+        ensures part { OnErr result (IsWithin (I.left source.old) (I.left source.new)) }
     {
         let mut reader = PlayReader::new();
         let head = match reader.head(source) {

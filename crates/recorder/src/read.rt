@@ -1,7 +1,8 @@
 // What each file has: a head, kinds, and the end mark.
-ghost use Rattle.std.specs.Prelude.{◌≡◌, ◌≢◌, ◌≤◌, ◌<◌, ◌∷◌, [], List, ℕ, Option, take, Some, None, IfOk, IfSome, IsErrOf};
+ghost use Rattle.std.specs.Prelude.{◌≡◌, ◌≢◌, ◌≤◌, ◌<◌, ◌∷◌, [], List, ℕ, Option, take, Some, None, IfOk, IfSome, IsErrOf, OnErr};
 ghost use Rattle.std.specs.Io.KnownBytes.{Consumes};
 ghost use Rattle.gate_base.specs.Faults.{Rose};
+ghost use Rattle.gate_io.specs.Flow.{ConsumesFewer};
 ghost use Rattle.recorder.specs.Files.{answer_by, end_mark, event_limit, fault_by};
 ghost use Rattle.recorder.specs.Heads.{IsHeading, head_fault, head_text};
 ghost use Rattle.recorder.specs.Reader.{Tells, TellsNoKind};
@@ -20,6 +21,7 @@ pub fn read_head<I: Source>(magic: &[u8; 8], source: &mut I) -> Result<Head, Rec
     ensures text { IfOk result (λ h. Consumes (I.left source.old) (I.left source.new) (head_text magic.now h)) }
     ensures fits { IfOk result (λ h. IsHeading h) }
     ensures fault { IfSome (I.left source.old) (λ octets. Tells result (head_fault magic.now (take 12 octets))) }
+    ensures part { OnErr result (ConsumesFewer 13 (I.left source.old) (I.left source.new)) }
     ensures later { I.faults source.old ≤ I.faults source.new }
     ensures failed { IsErrOf result RecordEnd.ReadFailed → Rose (I.faults source.old) (I.faults source.new) }
 {
@@ -38,6 +40,7 @@ pub fn read_kind<I: Source>(count: u32, at: u64, source: &mut I) -> Result<Optio
     ensures text { IfOk result (λ o. Consumes (I.left source.old) (I.left source.new) (answer_by (λ kind. kind ∷ []) o)) }
     ensures kind { IfOk result (λ o. IfSome o (λ kind. (kind ≢ end_mark) × (count < event_limit))) }
     ensures fault { (behind : ℕ → ℕ → List ℕ → Option RecordFault) → IfSome (I.left source.old) (λ octets. TellsNoKind result (fault_by behind count at octets)) }
+    ensures part { OnErr result (ConsumesFewer 2 (I.left source.old) (I.left source.new)) }
     ensures later { I.faults source.old ≤ I.faults source.new }
     ensures failed { IsErrOf result RecordEnd.ReadFailed → Rose (I.faults source.old) (I.faults source.new) }
 {

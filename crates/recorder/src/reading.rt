@@ -1,7 +1,8 @@
 // What a reader keeps between its calls.
-ghost use Rattle.std.specs.Prelude.{◌≡◌, ◌≤◌, ◌<◌, ◌⊎◌, ◌+◌, ◌^◌, length, take, Some, None, IfOk, IfSome, IsSome, IsErrOf};
+ghost use Rattle.std.specs.Prelude.{◌≡◌, ◌≤◌, ◌<◌, ◌⊎◌, ◌+◌, ◌^◌, length, take, Some, None, IfOk, IfSome, IsSome, IsErrOf, OnErr};
 ghost use Rattle.std.specs.Io.KnownBytes.{Consumes};
 ghost use Rattle.gate_base.specs.Faults.{Rose};
+ghost use Rattle.gate_io.specs.Flow.{ConsumesFewer};
 ghost use Rattle.recorder.specs.Heads.{IsHeading, head_fault, head_text};
 ghost use Rattle.recorder.specs.Reader.{Tells, again, fresh, head_again, headed};
 ghost use Rattle.recorder.specs.Files.{event_limit};
@@ -96,6 +97,7 @@ impl Reading {
         ensures fits { self.old ≡ fresh → IfOk result (λ h. IsHeading h) }
         ensures fault { self.old ≡ fresh → IfSome (I.left source.old) (λ octets. Tells result (head_fault magic.now (take 12 octets))) }
         ensures state { self.old ≡ fresh → self.new ≡ headed result }
+        ensures part { OnErr result (ConsumesFewer 13 (I.left source.old) (I.left source.new)) }
         ensures later { I.faults source.old ≤ I.faults source.new }
         ensures failed { IsErrOf result RecordEnd.ReadFailed → Rose (I.faults source.old) (I.faults source.new) ⊎ (self.old.over ≡ Some (Ending.Refused RecordEnd.ReadFailed)) }
     {

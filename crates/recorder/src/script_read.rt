@@ -1,10 +1,11 @@
 // The events of a script from a source, a whole group of fields at once.
-ghost use Rattle.std.specs.Prelude.{◌≡◌, ◌≤◌, ◌<◌, ◌+◌, ◌^◌, ◌∷◌, List, ℕ, length, take, IfOk, IfSome, IsErrOf};
+ghost use Rattle.std.specs.Prelude.{◌≡◌, ◌≤◌, ◌<◌, ◌+◌, ◌^◌, ◌∷◌, List, ℕ, length, take, IfOk, IfSome, IsErrOf, OnErr};
 ghost use Rattle.std.specs.Io.KnownBytes.{Consumes};
 ghost use Rattle.gate_base.specs.Faults.{Rose};
+ghost use Rattle.gate_io.specs.Flow.{ConsumesFewer};
 ghost use Rattle.recorder.specs.Files.{event_limit};
 ghost use Rattle.recorder.specs.Reader.{Tells};
-ghost use Rattle.recorder.specs.Script.{EventFits, answer_text, event_text, fault_at, file_fault, octets_fault, whole_datagram_fault};
+ghost use Rattle.recorder.specs.Script.{EventFits, answer_text, event_text, fault_at, file_fault, longest_event, octets_fault, whole_datagram_fault};
 
 use crate::events::ScriptEvent;
 use crate::fault::{RecordEnd, RecordFault};
@@ -20,6 +21,7 @@ fn read_file<I: Source>(head: &Head, from: u64, source: &mut I) -> Result<Script
     ensures text { IfOk result (λ e. (fields : List ℕ) × (event_text e ≡ 2 ∷ fields) × Consumes (I.left source.old) (I.left source.new) fields) }
     ensures fits { IfOk result (λ e. EventFits head.now e) }
     ensures fault { IfSome (I.left source.old) (λ octets. Tells result (file_fault head.now from (take 42 octets))) }
+    ensures part { OnErr result (ConsumesFewer 43 (I.left source.old) (I.left source.new)) }
     ensures later { I.faults source.old ≤ I.faults source.new }
     ensures failed { IsErrOf result RecordEnd.ReadFailed → Rose (I.faults source.old) (I.faults source.new) }
 {
@@ -39,6 +41,7 @@ fn read_octets<I: Source>(from: u64, count: u16, source: &mut I) -> Result<Packe
     requires place { from + 2048 < 2 ^ 64 }
     ensures text { IfOk result (λ p. Consumes (I.left source.old) (I.left source.new) p × (length p ≡ count)) }
     ensures fault { IfSome (I.left source.old) (λ octets. Tells result (octets_fault from count octets)) }
+    ensures part { OnErr result (ConsumesFewer 2049 (I.left source.old) (I.left source.new)) }
     ensures later { I.faults source.old ≤ I.faults source.new }
     ensures failed { IsErrOf result RecordEnd.ReadFailed → Rose (I.faults source.old) (I.faults source.new) }
 {
@@ -67,6 +70,7 @@ fn read_datagram<I: Source>(
     ensures text { IfOk result (λ e. (fields : List ℕ) × (event_text e ≡ 3 ∷ fields) × Consumes (I.left source.old) (I.left source.new) fields) }
     ensures fits { IfOk result (λ e. EventFits head.now e) }
     ensures fault { IfSome (I.left source.old) (λ octets. Tells result (whole_datagram_fault head.now from octets)) }
+    ensures part { OnErr result (ConsumesFewer 2056 (I.left source.old) (I.left source.new)) }
     ensures later { I.faults source.old ≤ I.faults source.new }
     ensures failed { IsErrOf result RecordEnd.ReadFailed → Rose (I.faults source.old) (I.faults source.new) }
 {
@@ -99,6 +103,7 @@ pub fn read_event<I: Source>(
     ensures text { IfOk result (λ o. Consumes (I.left source.old) (I.left source.new) (answer_text o)) }
     ensures fits { IfOk result (λ o. IfSome o (λ e. EventFits head.now e × (count < event_limit))) }
     ensures fault { IfSome (I.left source.old) (λ octets. Tells result (fault_at head.now count at octets)) }
+    ensures part { OnErr result (ConsumesFewer (longest_event + 1) (I.left source.old) (I.left source.new)) }
     ensures later { I.faults source.old ≤ I.faults source.new }
     ensures failed { IsErrOf result RecordEnd.ReadFailed → Rose (I.faults source.old) (I.faults source.new) }
 {

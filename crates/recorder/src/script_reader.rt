@@ -1,11 +1,12 @@
 // A script, event by event.
-ghost use Rattle.std.specs.Prelude.{◌≡◌, ◌≤◌, ◌<◌, ◌⊎◌, length, take, None, Some, IfOk, IfSome, IsSome, IsErrOf};
+ghost use Rattle.std.specs.Prelude.{◌+◌, ◌≡◌, ◌≤◌, ◌<◌, ◌⊎◌, length, take, None, Some, IfOk, IfSome, IsSome, IsErrOf, OnErr};
 ghost use Rattle.std.specs.Io.KnownBytes.{Consumes};
 ghost use Rattle.gate_base.specs.Faults.{Rose};
+ghost use Rattle.gate_io.specs.Flow.{ConsumesFewer};
 ghost use Rattle.recorder.specs.Heads.{Heading, IsHeading, head_fault, head_text, script_magic};
 ghost use Rattle.recorder.specs.Reader.{Tells, again, fresh, head_again, headed, stepped};
 ghost use Rattle.recorder.specs.Files.{event_limit};
-ghost use Rattle.recorder.specs.Script.{EventFits, answer_text, event_text, fault_at};
+ghost use Rattle.recorder.specs.Script.{EventFits, answer_text, event_text, fault_at, longest_event};
 
 use crate::events::ScriptEvent;
 use crate::fault::{Ending, RecordEnd};
@@ -41,13 +42,15 @@ impl ScriptReader {
         }
     }
 
-    /// Reads the head. Once it is decided, the same is answered again and nothing is taken.
+    /// Reads the head. Once it is decided, the same is answered again and nothing is taken. A refusal has taken no more
+    /// than a head's octets.
     pub fn head<I: Source>(&mut self, source: &mut I) -> Result<Head, RecordEnd>
         ensures again { IfSome (head_again self.old.head self.old.over) (λ a. (result ≡ a) × (self.new ≡ self.old) × (source.new ≡ source.old)) }
         ensures text { self.old ≡ fresh → IfOk result (λ h. Consumes (I.left source.old) (I.left source.new) (head_text script_magic h)) }
         ensures fits { self.old ≡ fresh → IfOk result (λ h. IsHeading h) }
         ensures fault { self.old ≡ fresh → IfSome (I.left source.old) (λ octets. Tells result (head_fault script_magic (take 12 octets))) }
         ensures state { self.old ≡ fresh → self.new ≡ headed result }
+        ensures part { OnErr result (ConsumesFewer 13 (I.left source.old) (I.left source.new)) }
         ensures later { I.faults source.old ≤ I.faults source.new }
         ensures failed { IsErrOf result RecordEnd.ReadFailed → Rose (I.faults source.old) (I.faults source.new) ⊎ (self.old.over ≡ Some (Ending.Refused RecordEnd.ReadFailed)) }
     {
@@ -55,7 +58,7 @@ impl ScriptReader {
     }
 
     /// Reads the next event, or none at the end mark. Once the reader is over, the same is answered again and
-    /// nothing is taken.
+    /// nothing is taken. A refusal has taken no more than an event's octets.
     pub fn next<I: Source>(&mut self, source: &mut I) -> Result<Option<ScriptEvent>, RecordEnd>
         requires { IsSome self.old.head }
         ensures again { IfSome self.old.over (λ e. (result ≡ again e) × (self.new ≡ self.old) × (source.new ≡ source.old)) }
@@ -64,6 +67,7 @@ impl ScriptReader {
         ensures fault { (h : Heading) → self.old.head ≡ Some h → self.old.over ≡ None → IfSome (I.left source.old) (λ octets. Tells result (fault_at h self.old.count self.old.at octets)) }
         ensures state { self.old.over ≡ None → self.new ≡ stepped self.old result }
         ensures kept { self.new.head ≡ self.old.head }
+        ensures part { OnErr result (ConsumesFewer (longest_event + 1) (I.left source.old) (I.left source.new)) }
         ensures later { I.faults source.old ≤ I.faults source.new }
         ensures failed { IsErrOf result RecordEnd.ReadFailed → Rose (I.faults source.old) (I.faults source.new) ⊎ (self.old.over ≡ Some (Ending.Refused RecordEnd.ReadFailed)) }
     {

@@ -3,7 +3,7 @@ ghost use Rattle.std.specs.Prelude.{◌≡◌};
 ghost use Rattle.recorder.specs.Tallies.{item_counted, no_plays, no_tally, reply_counted};
 
 use frame_codec::Item;
-use play_machine::FileReply;
+use playout::FileReply;
 
 /// What a filer's datagrams came to: how many there were, how its frames were answered, and the datagrams
 /// that gave no frame, each under its cause. Each count stands still at 2^64 - 1.

@@ -71,6 +71,16 @@ pub fn octets_of(alloc: Global, text: &str) -> Result<Vec<u8>, OutOfMemory> {
     Ok(octets)
 }
 
+/// A head, so many events of this kind, which has no fields, and the end mark.
+pub fn long_of(alloc: Global, head: &str, kind: u8, events: usize) -> Result<Vec<u8>, OutOfMemory> {
+    let mut octets = octets_of(alloc, head)?;
+    for _ in 0..events {
+        octets.extend_from_slice(&[kind])?;
+    }
+    octets.extend_from_slice(&[0xFF])?;
+    Ok(octets)
+}
+
 /// A reader of a script that has read the head.
 #[derive(Drop)]
 pub struct Opened {

@@ -4,12 +4,12 @@ ghost use Rattle.recorder.specs.Script.{FitsSomeHead};
 use super::*;
 use crate::test_files::{
     EXCHANGE, FILED, Kept, Opened, PLAYED, SCRIPT, cuts_are_told, end_of_file, frame, has_fault,
-    octets_of,
+    long_of, octets_of,
 };
 use frame_codec::Item;
 use gate_base::OutOfMemory;
 use gate_io::{MemorySink, MemorySource};
-use play_machine::FileReply;
+use playout::FileReply;
 use std::alloc::Global;
 use std::test::Fail;
 
@@ -187,6 +187,7 @@ fn the_events_of_a_script_are_read_and_its_end_is_kept(rt: HostRuntime) -> Resul
     assert!(rt; is_over(&mut opened, &mut source));
     assert!(rt; is_over(&mut opened, &mut source));
     scripts_have_no_fault();
+    scripts_have_one_fault();
     Ok(())
 }
 
@@ -233,6 +234,43 @@ fn a_source_that_fails_gives_no_journal(rt: HostRuntime) -> Result<(), Fail> {
     assert!(rt; end_of_file(rt.alloc(), Kept::Filer, &octets, 10, &[4])? == failed);
     let magic = Err(RecordEnd::Fault(RecordFault::Magic));
     assert!(rt; end_of_file(rt.alloc(), Kept::Player, &octets, 10, &[])? == magic);
+    Ok(())
+}
+
+// Whether a failure of each of the first takes is told as a failed read, and one of the next take no longer matters.
+fn each_failed_take_is_told(
+    alloc: Global,
+    kept: Kept,
+    text: &str,
+    takes: u64,
+) -> Result<bool, OutOfMemory> {
+    let octets = octets_of(alloc, text)?;
+    for k in 0..takes {
+        if end_of_file(alloc, kept, &octets, 100, &[k])? != Err(RecordEnd::ReadFailed) {
+            return Ok(false);
+        }
+    }
+    Ok(end_of_file(alloc, kept, &octets, 100, &[takes])?.is_ok())
+}
+
+#[test]
+fn a_journal_tells_the_failure_of_each_take(rt: HostRuntime) -> Result<(), Fail> {
+    // One take for the head and for the end mark, one for each kind, and one for what stands behind it.
+    assert!(rt; each_failed_take_is_told(rt.alloc(), Kept::Player, PLAYED, 8)?);
+    assert!(rt; each_failed_take_is_told(rt.alloc(), Kept::Filer, FILED, 20)?);
+    Ok(())
+}
+
+#[test]
+fn long_journals_are_read_with_ample_memory(rt: HostRuntime) -> Result<(), Fail> {
+    let mut played = long_of(rt.alloc(), "player 01060003", 0x12, 5000)?;
+    assert!(rt; end_of_file(rt.alloc(), Kept::Player, &played, 4096, &[])? == Ok(5000));
+    let filed = long_of(rt.alloc(), "filer 01060003 00", 0x27, 5000)?;
+    assert!(rt; end_of_file(rt.alloc(), Kept::Filer, &filed, 4096, &[])? == Ok(5000));
+    // A fault behind all events is told too.
+    let cut = Err(RecordEnd::Fault(RecordFault::Cut { at: 5012 }));
+    played.truncate(5012);
+    assert!(rt; end_of_file(rt.alloc(), Kept::Player, &played, 4096, &[])? == cut);
     Ok(())
 }
 
@@ -283,6 +321,8 @@ fn a_filers_journal_keeps_its_events(rt: HostRuntime) -> Result<(), Fail> {
     );
     filer_journals_have_no_fault();
     player_journals_have_no_fault();
+    filer_journals_have_one_fault();
+    player_journals_have_one_fault();
     Ok(())
 }
 

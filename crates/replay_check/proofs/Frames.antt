@@ -4,7 +4,7 @@ use Rattle.std.proofs.lemmas.Bool.Decides.{nat_tests}
 use Rattle.std.specs.Cmp.{nat_cmp_total}
 use Rattle.std.specs.FinMap as map
 use Rattle.std.specs.FinMap.{gets, same_map, nat_cmp-IsAntisymmetric}
-use Rattle.play_machine.specs.Machine.{Frames}
+use Rattle.playout.specs.Machine.{Frames}
 
 pub get-insert_here : (m : Frames) (n : ℕ) (f : List ℕ) → map.get (map.insert m n f) n ≡ Some f
 get-insert_here m n f = grind (arith, gets, nat_tests)

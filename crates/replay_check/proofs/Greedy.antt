@@ -3,11 +3,11 @@ use Rattle.std.proofs.Common.{◌≡◌, ◌≢◌, inl, inr, ℕ, ◌<◌, ◌�
 use native.Mathlib.Decide.{ℕ_discrete}
 use Rattle.std.proofs.lemmas.Bool.{cases_lt}
 use mathlib.Core.Bool.{Bool, cond, true, false}
-use Rattle.play_machine.specs.declared.reply.FileReply.TheVariants.{Accepted, Duplicate, Late, Beyond}
-use Rattle.play_machine.specs.declared.call.Call.{Call}
-use Rattle.play_machine.specs.declared.call.Call.TheVariants.{FileCall, SourceCall, BaseCall, PeekCall, TickCall}
-use Rattle.play_machine.specs.Machine.{Machine, opening_machine, Replies, after}
-use Rattle.play_machine.specs.History.{Entry, entry, IsLegal, calls_of}
+use Rattle.playout.specs.declared.reply.FileReply.TheVariants.{Accepted, Duplicate, Late, Beyond}
+use Rattle.playout.specs.declared.call.Call.{Call}
+use Rattle.playout.specs.declared.call.Call.TheVariants.{FileCall, SourceCall, BaseCall, PeekCall, TickCall}
+use Rattle.playout.specs.Machine.{Machine, opening_machine, Replies, after}
+use Rattle.playout.specs.History.{Entry, entry, IsLegal, calls_of}
 use Rattle.replay_check.specs.Verdict.{Lists, AllAtMost, IsHistory, Lawful, HasOrder}
 use Rattle.replay_check.specs.Rule.{RuleDecides, IsFilers, AllFilers, IsLater, AllLater, IsPlayers, AreJournals, IsNext, Can, IsPeek, CanPeek, IsTaken, without, Follows, NothingLeft, IsStuck, RuleIsExact}
 use Rattle.replay_check.proofs.Removed.{removed, removed-own, removed-others, removed-callers, calls_of-head, calls_of-skip, same_head, same_tail, not_empty}

@@ -7,14 +7,14 @@ use Rattle.std.proofs.lemmas.Bool.{eq-eqb, ne_eqb}
 use Rattle.std.proofs.KnownBytes.{Appends-trans}
 use Rattle.gate_io.specs.Flow.{AppendsPart}
 use Rattle.gate_io.specs.FlowLaws.{AppendsPart-after, AppendsPart-longer}
-use Rattle.play_machine.specs.declared.reply.FileReply.{FileReply}
-use Rattle.play_machine.specs.declared.reply.FileReply.TheVariants.{Accepted, Duplicate, Late, Beyond}
-use Rattle.play_machine.specs.declared.call.Call.{Call}
-use Rattle.play_machine.specs.declared.call.Call.TheVariants.{FileCall, TickCall}
-use Rattle.play_machine.specs.Machine.{Machine, opening_machine, after, filed}
-use Rattle.play_machine.specs.Line.{Line}
-use Rattle.play_machine.specs.History.{Entry, entry, IsLegal, after_all, calls, calls_of}
-use Rattle.play_machine.specs.HistoryLaws.{after_all-append, IsLegal-append, calls-append, calls_of-append}
+use Rattle.playout.specs.declared.reply.FileReply.{FileReply}
+use Rattle.playout.specs.declared.reply.FileReply.TheVariants.{Accepted, Duplicate, Late, Beyond}
+use Rattle.playout.specs.declared.call.Call.{Call}
+use Rattle.playout.specs.declared.call.Call.TheVariants.{FileCall, TickCall}
+use Rattle.playout.specs.Machine.{Machine, opening_machine, after, filed}
+use Rattle.playout.specs.Line.{Line}
+use Rattle.playout.specs.History.{Entry, entry, IsLegal, after_all, calls, calls_of}
+use Rattle.playout.specs.HistoryLaws.{after_all-append, IsLegal-append, calls-append, calls_of-append}
 use Rattle.recorder.specs.declared.events.ScriptEvent.{ScriptEvent}
 use Rattle.recorder.specs.declared.events.ScriptEvent.TheVariants.{Tick, File}
 use Rattle.recorder.specs.Files.{end_mark}

@@ -1,7 +1,7 @@
 -- Two orders of the rule that have come to their ends are equal.
 use Rattle.std.proofs.Common.{◌≡◌, inl, inr, ℕ, ◌≤◌, List, [], ◌∷◌, refl, sym, ap, ◌∙◌, subst}
-use Rattle.play_machine.specs.declared.call.Call.{Call}
-use Rattle.play_machine.specs.Machine.{Machine, opening_machine, after}
+use Rattle.playout.specs.declared.call.Call.{Call}
+use Rattle.playout.specs.Machine.{Machine, opening_machine, after}
 use Rattle.replay_check.specs.Verdict.{Lists}
 use Rattle.replay_check.specs.Rule.{IsNext, Can, IsTaken, without, Follows, NothingLeft, IsStuck, OrderIsOne}
 use Rattle.replay_check.proofs.Removed.{same_head, same_tail, not_empty}

@@ -1,8 +1,8 @@
 -- What stands next in each list, and what a test of it says.
 use Rattle.std.proofs.Common.{◌≡◌, ℕ, zero, suc, ◌+◌, ◌<◌, ◌≤◌, List, [], ◌∷◌, length, drop, get_or, Some, None, refl, sym, ap, ◌∙◌, subst, arith}
 use native.Mathlib.Decide.{ℕ_discrete}
-use Rattle.play_machine.specs.declared.call.Call.{Call}
-use Rattle.play_machine.specs.Machine.{Machine, Replies}
+use Rattle.playout.specs.declared.call.Call.{Call}
+use Rattle.playout.specs.Machine.{Machine, Replies}
 use Rattle.replay_check.specs.Verdict.{Lists}
 use Rattle.replay_check.specs.Rule.{IsNext, Can, IsPeek, CanPeek}
 use Rattle.replay_check.specs.Lists.{first_of}

@@ -1,12 +1,12 @@
 -- What the loop that follows the rule keeps.
 use Rattle.std.proofs.Common.{◌≡◌, ◌≢◌, ℕ, zero, suc, ◌+◌, ◌<◌, ◌≤◌, List, [], ◌∷◌, ◌++◌, length, drop, get_or, set, slice_index, None, refl, sym, ap, ◌∙◌, subst, inl, inr, arith, ◌^◌, get_or-set_other, get_or-set_same}
 use native.Mathlib.Decide.{ℕ_discrete}
-use Rattle.play_machine.specs.declared.reply.FileReply.{FileReply}
-use Rattle.play_machine.specs.declared.reply.FileReply.TheVariants.{Accepted, Duplicate, Late, Beyond}
-use Rattle.play_machine.specs.declared.call.Call.{Call}
-use Rattle.play_machine.specs.declared.call.Call.TheVariants.{FileCall, SourceCall, BaseCall, PeekCall, TickCall}
+use Rattle.playout.specs.declared.reply.FileReply.{FileReply}
+use Rattle.playout.specs.declared.reply.FileReply.TheVariants.{Accepted, Duplicate, Late, Beyond}
+use Rattle.playout.specs.declared.call.Call.{Call}
+use Rattle.playout.specs.declared.call.Call.TheVariants.{FileCall, SourceCall, BaseCall, PeekCall, TickCall}
 use Rattle.replay_check.specs.Making.{IsMakeable}
-use Rattle.play_machine.specs.Machine.{Machine, opening_machine, after}
+use Rattle.playout.specs.Machine.{Machine, opening_machine, after}
 use Rattle.replay_check.specs.Verdict.{Lists, Lawful, HasOrder}
 use Rattle.replay_check.specs.Rule.{IsNext, Can, IsTaken, without, Follows, NothingLeft, IsStuck, AreJournals, IsFilers, AllFilers, IsPlayers}
 use Rattle.recorder.specs.Journals.{FilerRecord, PlayerRecord}

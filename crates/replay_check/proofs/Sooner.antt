@@ -2,11 +2,11 @@
 use Rattle.std.proofs.Common.{◌≡◌, ◌≢◌, ℕ, ◌+◌, ◌≤◌, List, [], ◌∷◌, Option, Some, None, is_some, true, refl, sym, ap, ◌∙◌, subst, arith}
 use native.Mathlib.Decide.{ℕ_discrete}
 use Rattle.std.specs.FinMap as map
-use Rattle.play_machine.specs.declared.reply.FileReply.TheVariants.{Accepted, Duplicate, Late, Beyond}
-use Rattle.play_machine.specs.declared.call.Call.{Call}
-use Rattle.play_machine.specs.declared.call.Call.TheVariants.{FileCall, SourceCall, BaseCall, PeekCall, TickCall}
-use Rattle.play_machine.specs.Machine.{Machine, Frames, Replies, held_or, item_of, after}
-use Rattle.play_machine.specs.History.{Entry, IsLegal, calls_of}
+use Rattle.playout.specs.declared.reply.FileReply.TheVariants.{Accepted, Duplicate, Late, Beyond}
+use Rattle.playout.specs.declared.call.Call.{Call}
+use Rattle.playout.specs.declared.call.Call.TheVariants.{FileCall, SourceCall, BaseCall, PeekCall, TickCall}
+use Rattle.playout.specs.Machine.{Machine, Frames, Replies, held_or, item_of, after}
+use Rattle.playout.specs.History.{Entry, IsLegal, calls_of}
 use Rattle.replay_check.proofs.Frames.{get-insert_here, get-insert_else, get-remove_else, insert-insert, remove-insert}
 use Rattle.replay_check.proofs.Removed.{removed, removed-head, removed-skip, calls_of-head, calls_of-skip, same_head, not_empty}
 

@@ -2,7 +2,7 @@
 use Rattle.std.specs.Prelude.{ℕ, zero, suc, ◌+◌, ◌-◌, ◌*◌, ◌/◌, ◌%◌, ◌^◌, ◌==◌, List, [], ◌∷◌, ◌++◌, replicate, if◌then◌else◌}
 use Rattle.byteorder.specs.Endian.{little_bytes}
 use Rattle.rand_chacha.specs.ChaCha.{word_at, key_of}
-use Rattle.play_machine.specs.Machine.{start}
+use Rattle.playout.specs.Machine.{start}
 use Rattle.recorder.specs.declared.events.ScriptEvent.{ScriptEvent}
 use Rattle.recorder.specs.declared.events.ScriptEvent.TheVariants.{Tick, File}
 use Rattle.recorder.specs.Files.{end_mark}

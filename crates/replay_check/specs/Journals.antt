@@ -1,8 +1,8 @@
 -- The calls that journals tell.
 use Rattle.std.specs.Prelude.{◌≡◌, ℕ, zero, suc, ◌+◌, List, [], ◌∷◌, ◌++◌, length, map, Option, Some, None}
 use Rattle.frame_codec.specs.declared.item.Item.TheVariants as item
-use Rattle.play_machine.specs.declared.call.Call.{Call}
-use Rattle.play_machine.specs.declared.call.Call.TheVariants.{FileCall, SourceCall, BaseCall, PeekCall, TickCall}
+use Rattle.playout.specs.declared.call.Call.{Call}
+use Rattle.playout.specs.declared.call.Call.TheVariants.{FileCall, SourceCall, BaseCall, PeekCall, TickCall}
 use Rattle.recorder.specs.declared.events.FilerEvent.{FilerEvent}
 use Rattle.recorder.specs.declared.events.FilerEvent.TheVariants as filer
 use Rattle.recorder.specs.declared.events.PlayEvent.{PlayEvent}

@@ -1,7 +1,7 @@
 -- The journals whose calls are judged, where the calls stand in them, and how far each caller has come.
 use Rattle.std.specs.Prelude.{ℕ, zero, suc, ◌≡◌, ◌+◌, ◌-◌, List, [], ◌∷◌, length, drop, map, Option, Some, None, slice_index, Vec}
 use Rattle.std.specs.Global.{Global}
-use Rattle.play_machine.specs.declared.call.Call.{Call}
+use Rattle.playout.specs.declared.call.Call.{Call}
 use Rattle.recorder.specs.declared.events.FilerEvent.{FilerEvent}
 use Rattle.recorder.specs.Journals.{FilerRecord, PlayerRecord}
 use Rattle.replay_check.specs.Journals.{call_of, calls_in, filer_calls, journal_lists, plays_in}

@@ -1,9 +1,9 @@
 -- What one round does to the run of a script.
 use Rattle.std.specs.Prelude.{ℕ, ◌≡◌, ◌^◌, List}
 use Rattle.frame_codec.specs.declared.item.Item.{Item}
-use Rattle.play_machine.specs.declared.reply.FileReply.{FileReply}
-use Rattle.play_machine.specs.declared.call.Call.TheVariants.{FileCall, TickCall}
-use Rattle.play_machine.specs.Machine.{Replies, after}
+use Rattle.playout.specs.declared.reply.FileReply.{FileReply}
+use Rattle.playout.specs.declared.call.Call.TheVariants.{FileCall, TickCall}
+use Rattle.playout.specs.Machine.{Replies, after}
 use Rattle.recorder.specs.Tallies.{item_counted, reply_counted}
 use Rattle.replay_check.specs.declared.played.Played.{Played}
 

@@ -1,8 +1,8 @@
 -- Lists of calls that come from one line: what is asked of them, and what is answered.
 use Rattle.std.specs.Prelude.{◌≡◌, ℕ, ◌≤◌, List, [], ◌∷◌}
-use Rattle.play_machine.specs.declared.call.Call.{Call}
-use Rattle.play_machine.specs.Machine.{Machine}
-use Rattle.play_machine.specs.History.{Entry, IsLegal, calls_of}
+use Rattle.playout.specs.declared.call.Call.{Call}
+use Rattle.playout.specs.Machine.{Machine}
+use Rattle.playout.specs.History.{Entry, IsLegal, calls_of}
 
 -- the calls of each caller, by its number
 abbrev pub Lists : Type 0

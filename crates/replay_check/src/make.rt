@@ -13,7 +13,7 @@ use crate::round::{Round, round_of};
 use crate::words::Words;
 use gate_base::OutOfMemory;
 use gate_io::{Failed, Sink};
-use play_machine::MapLine;
+use playout::MapLine;
 use recorder::{Head, ScriptEvent, write_end, write_script, write_script_head};
 use std::alloc::Global;
 

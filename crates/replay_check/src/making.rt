@@ -1,10 +1,10 @@
 // A recorded call, made once more.
 ghost use Rattle.std.specs.Prelude.{◌≡◌, ◌<◌, ◌≤◌, ◌^◌};
-ghost use Rattle.play_machine.specs.Machine.{Replies, after};
-ghost use Rattle.play_machine.specs.History.{tick_weight};
+ghost use Rattle.playout.specs.Machine.{Replies, after};
+ghost use Rattle.playout.specs.History.{tick_weight};
 ghost use Rattle.replay_check.specs.Making.{IsMakeable};
 
-use play_machine::{Call, MapLine};
+use playout::{Call, MapLine};
 
 // The machine does not look at who calls.
 const ANY_FILER: u32 = 0;

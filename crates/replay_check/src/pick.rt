@@ -1,11 +1,11 @@
 // The call that the rule takes next.
 ghost use Rattle.std.specs.Prelude.{ℕ, ◌≡◌, ◌<◌, ◌≤◌, ◌-◌, ◌+◌, ◌^◌, ◌↔◌, List, IsTrue, length, MatchOption};
-ghost use Rattle.play_machine.specs.declared.call.Call.{Call};
+ghost use Rattle.playout.specs.declared.call.Call.{Call};
 ghost use Rattle.replay_check.specs.Rule.{Can, CanPeek, IsNext, IsPeek, IsTaken, NoneCan};
 ghost use Rattle.replay_check.specs.Lists.{left_of, list_of};
 
 use crate::recorded::Recorded;
-use play_machine::{Call, MapLine};
+use playout::{Call, MapLine};
 
 fn is_peek(call: &Call) -> bool
     ensures { IsTrue result ↔ IsPeek call.now }

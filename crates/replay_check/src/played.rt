@@ -3,7 +3,7 @@ ghost use Rattle.std.specs.Prelude.{◌≡◌, ◌<◌, ◌^◌};
 ghost use Rattle.recorder.specs.Tallies.{no_plays, no_tally};
 
 use crate::round::Round;
-use play_machine::MapLine;
+use playout::MapLine;
 use recorder::{PlayTally, Tally};
 
 /// The line that the rounds call, and what was counted of the items and the replies.

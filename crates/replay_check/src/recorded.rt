@@ -6,7 +6,7 @@ ghost use Rattle.replay_check.specs.Lists.{AllCallsAt, AreCallsAt, first_of, lis
 
 use frame_codec::Item;
 use gate_base::OutOfMemory;
-use play_machine::Call;
+use playout::Call;
 use recorder::{FilerEvent, FilerJournal, PlayEvent, PlayerJournal};
 use std::alloc::Global;
 use std::marker::Model;

@@ -1,6 +1,6 @@
 // Whether journals have a legal history.
 ghost use Rattle.std.specs.Prelude.{ℕ, ◌≡◌, ◌<◌, ◌≤◌, ◌-◌, ◌+◌, ◌^◌, length, IfOk, slice_get, slice_index, slice_set};
-ghost use Rattle.play_machine.specs.Machine.{opening_machine};
+ghost use Rattle.playout.specs.Machine.{opening_machine};
 ghost use Rattle.replay_check.specs.Journals.{AreOfOneLine, journal_lists};
 ghost use Rattle.replay_check.specs.Rule.{AreJournals, IsVerdict};
 ghost use Rattle.replay_check.specs.Lists.{list_of};
@@ -11,7 +11,7 @@ use crate::pick::pick;
 use crate::recorded::Recorded;
 use crate::verdict::Verdict;
 use gate_base::OutOfMemory;
-use play_machine::MapLine;
+use playout::MapLine;
 use recorder::{FilerJournal, PlayerJournal};
 use std::alloc::Global;
 

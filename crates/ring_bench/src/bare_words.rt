@@ -4,7 +4,7 @@ use crate::measure;
 use crate::measure::{Four, Load, Measured};
 use frame_codec::Frame33;
 use gate_base::OutOfMemory;
-use play_machine::FileReply;
+use playout::FileReply;
 use std::alloc::Global;
 use std::sync::atomic::{AtomicU64, Ordering};
 use std::thread::Threads;

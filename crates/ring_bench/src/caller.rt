@@ -1,9 +1,9 @@
 // Who calls, whatever stands behind.
 ghost use Rattle.std.specs.Prelude.{◌≡◌, ℕ, ◌+◌, ◌<◌, ◌^◌};
-ghost use Rattle.play_machine.specs.declared.reply.FileReply.TheVariants.{Accepted, Beyond, Duplicate, Late};
+ghost use Rattle.playout.specs.declared.reply.FileReply.TheVariants.{Accepted, Beyond, Duplicate, Late};
 
 use frame_codec::Frame33;
-use play_machine::FileReply;
+use playout::FileReply;
 
 /// The number of the first tick.
 pub(crate) const START: u64 = 4294967296;

@@ -5,6 +5,8 @@ mod bare_words;
 mod caller;
 mod measure;
 mod on_ring;
+#[cfg(test)]
+mod tests;
 mod under_lock;
 
 use crate::measure::{Costs, Counts, Load, Measured};

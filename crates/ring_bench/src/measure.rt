@@ -1,11 +1,11 @@
 // What calls take.
-ghost use Rattle.std.specs.Prelude.{◌≡◌, ◌+◌, ◌*◌, ◌/◌, ◌<◌, ◌≤◌, ◌^◌};
+ghost use Rattle.std.specs.Prelude.{◌≡◌, ◌+◌, ◌-◌, ◌*◌, ◌/◌, ◌<◌, ◌≤◌, ◌^◌};
 ghost use Rattle.std.specs.Thread.{IsSync};
 ghost use denote.Param.Send.{IsSend};
 
 use crate::caller::{Filer, Player, SLOTS, START, bounded, following};
 use frame_codec::Frame33;
-use play_machine::FileReply;
+use playout::FileReply;
 use std::sync::atomic::{AtomicU64, Ordering};
 use std::thread;
 use std::thread::{Threads, join_mut};
@@ -139,6 +139,46 @@ const NOTHING: Spent = Spent {
     at_once: 0,
 };
 
+// What filing came to, and what ticking did.
+#[derive(Clone, Copy)]
+struct Work {
+    file: Spent,
+    tick: Spent,
+}
+
+// One turn of the slots, by the clock before its filing, between that and its ticking, and behind it.
+fn one_turn(begun: u64, filed: u64, ended: u64, accepted: u64, played: u64) -> Work
+    ensures file { begun ≤ filed → result.file ≡ record { nanos = filed - begun; calls = 32; frames = accepted; at_once = 0 } }
+    ensures tick { filed ≤ ended → result.tick ≡ record { nanos = ended - filed; calls = 32; frames = played; at_once = 0 } }
+{
+    Work {
+        file: turn(filed.saturating_sub(begun), accepted),
+        tick: turn(ended.saturating_sub(filed), played),
+    }
+}
+
+// The costs of a file are those of the filing, and the costs of a tick those of the ticking.
+fn summed_up(work: Work, tries: u64, next: u64, at_once: u64) -> Measured
+    ensures file { 1 ≤ work.file.calls → result.costs.file ≡ work.file.nanos / work.file.calls }
+    ensures tick { 1 ≤ work.tick.calls → result.costs.tick ≡ work.tick.nanos / work.tick.calls }
+    ensures tries { result.costs.tries ≡ tries }
+    ensures counts { result.counts ≡ record { accepted = work.file.frames; played = work.tick.frames; next = next; at_once = at_once } }
+{
+    Measured {
+        costs: Costs {
+            file: per_call(work.file),
+            tries,
+            tick: per_call(work.tick),
+        },
+        counts: Counts {
+            accepted: work.file.frames,
+            played: work.tick.frames,
+            next,
+            at_once,
+        },
+    }
+}
+
 /// One thread fills the slots and plays them, again and again.
 pub(crate) fn alone<R: Clock, F: Filer, P: Player>(
     rt: &R,
@@ -155,22 +195,11 @@ pub(crate) fn alone<R: Clock, F: Filer, P: Player>(
         let filed = nanos(rt, zero);
         let played = tick_turn(player);
         let ended = nanos(rt, zero);
-        file = together(file, turn(filed.saturating_sub(begun), accepted));
-        tick = together(tick, turn(ended.saturating_sub(filed), played));
+        let turn = one_turn(begun, filed, ended, accepted, played);
+        file = together(file, turn.file);
+        tick = together(tick, turn.tick);
     }
-    Measured {
-        costs: Costs {
-            file: per_call(file),
-            tries: 100,
-            tick: per_call(tick),
-        },
-        counts: Counts {
-            accepted: file.frames,
-            played: tick.frames,
-            next: player.position(),
-            at_once: 1,
-        },
-    }
+    summed_up(Work { file, tick }, 100, player.position(), 1)
 }
 
 // Comes to where the callers meet, and waits for the others, yielding between looks. 1 where all came in time.
@@ -308,17 +337,7 @@ pub(crate) fn contended<R: Threads + Clock + Sync, F: Filer + Send, P: Player + 
         { four_filers(rt, zero, filers, frame, numbers, come) },
         &mut || tick_on(rt, zero, player, numbers, come),
     );
-    Measured {
-        costs: Costs {
-            file: per_call(file),
-            tries: tries_of(file.calls, numbers),
-            tick: per_call(tick),
-        },
-        counts: Counts {
-            accepted: file.frames,
-            played: tick.frames,
-            next: player.position(),
-            at_once: file.at_once.saturating_add(tick.at_once),
-        },
-    }
+    let tries = tries_of(file.calls, numbers);
+    let at_once = file.at_once.saturating_add(tick.at_once);
+    summed_up(Work { file, tick }, tries, player.position(), at_once)
 }

@@ -7,7 +7,7 @@ use crate::measure;
 use crate::measure::{Four, Load, Measured};
 use frame_codec::{Frame33, Item};
 use gate_base::OutOfMemory;
-use play_machine::FileReply;
+use playout::FileReply;
 use slot_ring::{FilerPass, PlayerPass, SlotRing, Steps};
 use std::alloc::Global;
 use std::marker::Brand;

@@ -6,7 +6,7 @@ use crate::measure;
 use crate::measure::{Four, Load, Measured};
 use frame_codec::{Frame33, Item};
 use gate_base::OutOfMemory;
-use play_machine::{FileReply, MapLine};
+use playout::{FileReply, MapLine};
 use std::alloc::Global;
 use std::sync::{Mutex, Wait};
 use std::thread::Threads;

@@ -48,7 +48,8 @@ impl<'a> RtcpView<'a> {
 
     /// How many blocks there are: 0 to 31.
     pub fn block_count(&self) -> u32
-        ensures { result ≡ length self.now.blocks }
+        ensures count { result ≡ length self.now.blocks }
+        ensures few { result ≤ 31 }
     {
         u32::from(self.datagram[0] % 32)
     }

@@ -1,26 +1,26 @@
 -- The seats of callers over their calls of one step.
-use Rattle.std.proofs.Common.{◌≡◌, ℕ, ◌+◌, ◌%◌, ◌^◌, ◌<◌, ◌≤◌, List, [], ◌∷◌, ◌++◌, Option, Some, None, Bool, refl, sym, ap, ◌∙◌, subst, arith}
+use Rattle.std.proofs.Common.{◌≡◌, ℕ, ◌+◌, ◌%◌, ◌^◌, ◌<◌, ◌≤◌, List, [], ◌∷◌, ◌++◌, Option, Some, None, is_some, Bool, refl, sym, ap, ◌∙◌, subst, arith}
 use Rattle.frame_codec.specs.declared.item.Item.{Item}
 use Rattle.frame_codec.specs.declared.item.Item.TheVariants.{Frame}
-use Rattle.play_machine.specs.declared.call.Call.{Call}
-use Rattle.play_machine.specs.declared.call.Call.TheVariants.{SourceCall, BaseCall, PeekCall, TickCall}
-use Rattle.play_machine.specs.declared.words.SlotWord.{SlotWord}
-use Rattle.play_machine.specs.declared.views.Shape.{Shape}
-use Rattle.play_machine.specs.declared.views.Known.{Known}
-use Rattle.play_machine.specs.declared.views.Calling.{Calling}
-use Rattle.play_machine.specs.declared.views.Role.{Role}
-use Rattle.play_machine.specs.declared.views.Role.TheVariants.{Caller}
-use Rattle.play_machine.specs.declared.views.View.{View}
-use Rattle.play_machine.specs.Machine.{start, held_or}
-use Rattle.play_machine.specs.History.{ticks}
-use Rattle.play_machine.specs.Ring.{Has, slot_count, word_of}
-use Rattle.play_machine.specs.Core.{held_in}
-use Rattle.play_machine.specs.Steps.{caller_view, position_of, ticked, taken, free_word, sourced, based, peeked, told_by, merged}
-use Rattle.play_machine.proofs.Histories.{ticks-snoc}
-use Rattle.play_machine.proofs.Core.{held_is}
+use Rattle.playout.specs.declared.call.Call.{Call}
+use Rattle.playout.specs.declared.call.Call.TheVariants.{SourceCall, BaseCall, PeekCall, TickCall}
+use Rattle.ring_core.specs.declared.words.SlotWord.{SlotWord}
+use Rattle.ring_core.specs.declared.views.Shape.{Shape}
+use Rattle.ring_core.specs.declared.views.Known.{Known}
+use Rattle.ring_core.specs.declared.views.Calling.{Calling}
+use Rattle.ring_core.specs.declared.views.Role.{Role}
+use Rattle.ring_core.specs.declared.views.Role.TheVariants.{Caller}
+use Rattle.ring_core.specs.declared.views.View.{View}
+use Rattle.playout.specs.Machine.{start, held_or}
+use Rattle.playout.specs.History.{ticks}
+use Rattle.ring_core.specs.Ring.{Has, slot_count, word_of}
+use Rattle.ring_core.specs.Core.{held_in}
+use Rattle.ring_core.specs.Steps.{caller_view, position_of, ticked, taken, free_word, sourced, based, peeked, told_by, merged}
+use Rattle.playout.proofs.HistoryLaws.{ticks-snoc}
+use Rattle.ring_core.proofs.Core.{held_is}
 use Rattle.step_table.specs.Packed.{Kept, SeatState, pack_slot, Fits}
 use Rattle.step_table.specs.Kinds.{tick, peek, source, base, learn, told, both_of, IsHeldWord, AfterTick, AfterPeek, AfterSource, AfterBase, MaySwap, MayLoad, MayExchange, MayJoin, source_place, base_place}
-use Rattle.slot_ring.specs.Seen.{who_in, list_in, known_in}
+use Rattle.slot_ring.specs.Seen.{who_in, list_in, known_in, TickSays, PeekSays, HeldSays}
 use Rattle.slot_ring.specs.Kept.{IsPlayers, IsFilers, IsNote}
 use Rattle.slot_ring.proofs.Grows.{Went, went}
 
@@ -33,6 +33,7 @@ pub record Ticked (me last : SeatState) (item : Item) (cell p : ℕ) : Type 0 wh
   pub players : IsPlayers last cell (p + 1)
   pub went : Went me last (TickCall item)
   pub fresh : (f : List ℕ) → Has (known_in me.0.role).pairs (start + ticks (list_in me.0.role)) f → item ≡ Frame f
+  pub word : TickSays (start + ticks (list_in me.0.role)) item
 
 pub after_tick : (me now last : SeatState) (spare p found cell : ℕ) (kept : Kept) (item : Item) (full : Bool) → IsPlayers me spare p → told tick me found now → ((w : SlotWord) → found ≡ pack_slot w → Fits w → cell ≡ w.cell) → ((w : SlotWord) → found ≡ pack_slot w → Fits w → full ≡ w.filled)
     → now.1 ≡ (cell, kept) ∷ [] → item ≡ taken full kept → last ≡ (now.0, (cell, None) ∷ []) → Ticked me last item cell p
@@ -55,6 +56,7 @@ after_tick me now last spare p found cell kept item full is tells reads shows ho
       players = subst (λ (m : SeatState). IsPlayers m cell (p + 1)) (sym same) (d, None, refl, sym at, is.4, is.5, omega arith, omega arith);
       went = went me.0.shape me last c d (TickCall item) view (ap (λ (m : SeatState). m.0) same) refl (ap (λ (i : Item). c.list ++ TickCall i ∷ []) played) refl;
       fresh = subst (λ (r : Role). (f : List ℕ) → Has (known_in r).pairs (start + ticks (list_in r)) f → item ≡ Frame f) (sym role) (λ f has. sym played ∙ t.5 f has);
+      word = subst (λ (r : Role). TickSays (start + ticks (list_in r)) item) (sym role) (w, y, t.3, t.6, sym played, λ full. ap is_some (t.7 full).1);
     }
 
 pub may_tick : (me : SeatState) (k : Shape) (spare p word new : ℕ) → IsPlayers me spare p → me.0.shape ≡ k → p < 2 ^ 33 → word ≡ p % slot_count k → new ≡ pack_slot (free_word (p + slot_count k) spare) → MaySwap tick k me word new
@@ -73,6 +75,7 @@ pub record Peeked (me now : SeatState) (held : Option ℕ) (spare p : ℕ) : Typ
   pub players : IsPlayers now spare p
   pub went : Went me now (PeekCall held)
   pub fresh : (x : ℕ) → (known_in me.0.role).base ≡ Some x → held ≡ Some x
+  pub word : PeekSays (known_in me.0.role).base held
 
 pub after_peek : (me now : SeatState) (spare p found : ℕ) (held : Option ℕ) → IsPlayers me spare p → told peek me found now → (IsHeldWord found → held ≡ held_in found) → Peeked me now held spare p
 after_peek me now spare p found held is tells reads =
@@ -90,6 +93,7 @@ after_peek me now spare p found held is tells reads =
       players = subst (λ (m : SeatState). IsPlayers m spare p) (sym same) (d, is.1, refl, is.3, is.4, is.5, omega arith, is.7);
       went = went me.0.shape me now c d (PeekCall held) view (ap (λ (m : SeatState). m.0) same) refl refl refl;
       fresh = subst (λ (r : Role). (x : ℕ) → (known_in r).base ≡ Some x → held ≡ Some x) (sym role) (λ x e. answer ∙ held_is (Some x) found (t.2 x e));
+      word = subst (λ (r : Role). PeekSays (known_in r).base held) (sym role) (found, record { fits = t.0; known = t.2 }, answer);
     }
 
 pub may_peek : (me : SeatState) (k : Shape) (spare p word : ℕ) → IsPlayers me spare p → me.0.shape ≡ k → word ≡ base_place k → MayLoad peek k me word
@@ -102,7 +106,7 @@ pub record Asked (me now : SeatState) (call : Call) (who spare : ℕ) : Type 0 w
   pub went : Went me now call
 
 pub after_source : (me now : SeatState) (who spare found ssrc held : ℕ) → IsFilers me who spare → told (source ssrc) me found now → (IsHeldWord found → held ≡ held_or (held_in found) ssrc)
-    → Asked me now (SourceCall ssrc held) who spare × ((x : ℕ) → (known_in me.0.role).source ≡ Some x → held ≡ x)
+    → Asked me now (SourceCall ssrc held) who spare × ((x : ℕ) → (known_in me.0.role).source ≡ Some x → held ≡ x) × HeldSays (known_in me.0.role).source ssrc held
 after_source me now who spare found ssrc held is tells reads =
     let c : Calling = is.0 in
     let view : me.0 ≡ caller_view me.0.shape c = ap (λ (m : SeatState). m.0) is.2 in
@@ -117,10 +121,11 @@ after_source me now who spare found ssrc held is tells reads =
         went = went me.0.shape me now c d (SourceCall ssrc held) view (ap (λ (m : SeatState). m.0) same) refl refl refl;
       },
       subst (λ (r : Role). (x : ℕ) → (known_in r).source ≡ Some x → held ≡ x) (sym role) (λ x e. answer ∙ ap (λ (o : Option ℕ). held_or o ssrc) (held_is (Some x) found (t.2 x e))),
+      subst (λ (r : Role). HeldSays (known_in r).source ssrc held) (sym role) (found, record { fits = t.0; known = t.2 }, answer),
     )
 
 pub after_base : (me now : SeatState) (who spare found ts held : ℕ) → IsFilers me who spare → told (base ts) me found now → (IsHeldWord found → held ≡ held_or (held_in found) ts)
-    → Asked me now (BaseCall ts held) who spare × ((x : ℕ) → (known_in me.0.role).base ≡ Some x → held ≡ x)
+    → Asked me now (BaseCall ts held) who spare × ((x : ℕ) → (known_in me.0.role).base ≡ Some x → held ≡ x) × HeldSays (known_in me.0.role).base ts held
 after_base me now who spare found ts held is tells reads =
     let c : Calling = is.0 in
     let view : me.0 ≡ caller_view me.0.shape c = ap (λ (m : SeatState). m.0) is.2 in
@@ -135,6 +140,7 @@ after_base me now who spare found ts held is tells reads =
         went = went me.0.shape me now c d (BaseCall ts held) view (ap (λ (m : SeatState). m.0) same) refl refl refl;
       },
       subst (λ (r : Role). (x : ℕ) → (known_in r).base ≡ Some x → held ≡ x) (sym role) (λ x e. answer ∙ ap (λ (o : Option ℕ). held_or o ts) (held_is (Some x) found (t.2 x e))),
+      subst (λ (r : Role). HeldSays (known_in r).base ts held) (sym role) (found, record { fits = t.0; known = t.2 }, answer),
     )
 
 pub may_source : (me : SeatState) (k : Shape) (who spare x word new : ℕ) → IsFilers me who spare → me.0.shape ≡ k → x < 2 ^ 32 → word ≡ source_place k → new ≡ word_of (Some x) → MayExchange (source x) k me word 0 new

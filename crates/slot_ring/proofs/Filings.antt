@@ -2,20 +2,21 @@
 use Rattle.std.proofs.Common.{◌≡◌, inl, inr, ℕ, ◌+◌, ◌%◌, ◌^◌, ◌<◌, ◌≤◌, eqb, cond, List, [], ◌∷◌, ◌++◌, Some, None, Bool, true, false, refl, sym, ap, ◌∙◌, subst, arith}
 use Rattle.std.specs.Prelude.{nat_lt}
 use Rattle.std.proofs.lemmas.Bool.Decides.{nat_tests}
-use Rattle.play_machine.specs.declared.call.Call.TheVariants.{FileCall}
-use Rattle.play_machine.specs.declared.reply.FileReply.{FileReply}
-use Rattle.play_machine.specs.declared.reply.FileReply.TheVariants.{Accepted, Duplicate, Late, Beyond}
-use Rattle.play_machine.specs.declared.words.SlotWord.{SlotWord}
-use Rattle.play_machine.specs.declared.views.Flight.{Flight}
-use Rattle.play_machine.specs.declared.views.Calling.{Calling}
-use Rattle.play_machine.specs.declared.views.View.{View}
-use Rattle.play_machine.specs.Machine.{start}
-use Rattle.play_machine.specs.History.{ReplyFits}
-use Rattle.play_machine.specs.Ring.{Has}
-use Rattle.play_machine.specs.Steps.{caller_view, position_of, free_word, full_word, in_flight, replied, late, loaded, loaded_by, published}
+use Rattle.playout.specs.declared.call.Call.TheVariants.{FileCall}
+use Rattle.playout.specs.declared.reply.FileReply.{FileReply}
+use Rattle.playout.specs.declared.reply.FileReply.TheVariants.{Accepted, Duplicate, Late, Beyond}
+use Rattle.ring_core.specs.declared.words.SlotWord.{SlotWord}
+use Rattle.ring_core.specs.declared.views.Shape.{Shape}
+use Rattle.ring_core.specs.declared.views.Flight.{Flight}
+use Rattle.ring_core.specs.declared.views.Calling.{Calling}
+use Rattle.ring_core.specs.declared.views.View.{View}
+use Rattle.playout.specs.Machine.{start}
+use Rattle.playout.specs.History.{ReplyFits}
+use Rattle.ring_core.specs.Ring.{Has}
+use Rattle.ring_core.specs.Steps.{caller_view, position_of, free_word, full_word, in_flight, replied, late, loaded, loaded_by, published}
 use Rattle.step_table.specs.Packed.{Kept, SeatState, pack_slot, Fits}
 use Rattle.step_table.specs.Kinds.{load, publish, told, WordTells, AfterLoad, AfterPublish, MayExchange}
-use Rattle.slot_ring.specs.Seen.{known_after, IsLate, IsSettled}
+use Rattle.slot_ring.specs.Seen.{known_after, IsLate, IsSettled, IsOfSlot, IsReplyOf}
 use Rattle.slot_ring.specs.Kept.{IsFilers, reply_after}
 use Rattle.slot_ring.proofs.Grows.{Filed, filed}
 
@@ -44,31 +45,34 @@ module _ (me now : SeatState) (who spare number seen : ℕ) (frame : List ℕ) (
   abbrev knows : WordTells me.0.shape c number w
   knows = t.4
 
+  of_slot : IsOfSlot me.0.shape c.known number w
+  of_slot = record { fits = t.2; congruent = knows.congruent; first = knows.first; last = knows.last; reached = knows.reached }
+
   -- a reply at once
   answers : (d : Calling) (reply : FileReply) → loaded c w number frame ≡ d → d.spare ≡ c.spare → d.flight ≡ None → d.who ≡ c.who → d.list ≡ c.list ++ FileCall number frame reply ∷ [] → d.known ≡ known_after c.known (position_of c) (FileCall number frame reply)
-      → ReplyFits number reply → (number < c.known.position → IsLate reply) → ((g : List ℕ) → Has c.known.pairs number g → IsSettled reply) → Filed me now number frame reply who spare
-  answers d reply same cell ground mine list known fits late_known settled =
+      → ReplyFits number reply → IsReplyOf w number reply → (number < c.known.position → IsLate reply) → ((g : List ℕ) → Has c.known.pairs number g → IsSettled reply) → Filed me now number frame reply who spare
+  answers d reply same cell ground mine list known fits says late_known settled =
       let held : me.1 ≡ (spare, is.1) ∷ [] = ap (λ (m : SeatState). m.1) is.2 in
-      filed me now number frame reply who spare c d is.1 (ap (λ (m : SeatState). m.0) is.2) (t.3 ∙ (λ i. (caller_view me.0.shape (same i), held i))) (cell ∙ is.3) ground is.5 mine is.6 is.7 list known fits late_known settled
+      filed me now number frame reply who spare c d is.1 (ap (λ (m : SeatState). m.0) is.2) (t.3 ∙ (λ i. (caller_view me.0.shape (same i), held i))) (cell ∙ is.3) ground is.5 mine is.6 is.7 list known fits w of_slot says late_known settled
 
   pub looked_late : (ahead : ℕ) → ((w : SlotWord) → seen ≡ pack_slot w → Fits w → ahead ≡ w.number) → number < ahead → Filed me now number frame (Late ahead) who spare
   looked_late ahead reads above =
       let n : ahead ≡ w.number = reads w t.1 t.2 in
       let a : ℕ = w.number in let b : number < a = omega arith in let small : a < 281474976710656 = t.2.0 in
-      subst (λ (x : ℕ). Filed me now number frame (Late x) who spare) (sym n) (answers (late c number frame a) (Late a) (late_is c w number frame b) refl refl refl refl refl (b, omega arith) (λ low. tt) (λ g has. tt))
+      subst (λ (x : ℕ). Filed me now number frame (Late x) who spare) (sym n) (answers (late c number frame a) (Late a) (late_is c w number frame b) refl refl refl refl refl (b, omega arith) (b, refl) (λ low. tt) (λ g has. tt))
 
   pub looked_beyond : (ahead : ℕ) → ((w : SlotWord) → seen ≡ pack_slot w → Fits w → ahead ≡ w.number) → ahead < number → Filed me now number frame (Beyond ahead) who spare
   looked_beyond ahead reads below =
       let n : ahead ≡ w.number = reads w t.1 t.2 in
       let a : ℕ = w.number in let b : a < number = omega arith in let q : ℕ = c.known.position in let reached : q ≤ a = knows.reached in
       subst (λ (x : ℕ). Filed me now number frame (Beyond x) who spare) (sym n)
-      (answers (replied c number frame (Beyond a)) (Beyond a) (beyond_is c w number frame b) refl refl refl refl refl b (λ low. absurd (omega arith)) (λ g has. let ahead_of : number ≤ a = (knows.accepted g has).0 in absurd (omega arith)))
+      (answers (replied c number frame (Beyond a)) (Beyond a) (beyond_is c w number frame b) refl refl refl refl refl b (b, refl) (λ low. absurd (omega arith)) (λ g has. let ahead_of : number ≤ a = (knows.accepted g has).0 in absurd (omega arith)))
 
   pub looked_full : (ahead : ℕ) (full : Bool) → ((w : SlotWord) → seen ≡ pack_slot w → Fits w → ahead ≡ w.number) → ((w : SlotWord) → seen ≡ pack_slot w → Fits w → full ≡ w.filled) → ahead ≤ number → number ≤ ahead → full ≡ true → Filed me now number frame Duplicate who spare
   looked_full ahead full reads fills le ge yes_full =
       let n : ahead ≡ w.number = reads w t.1 t.2 in let b : w.filled ≡ true = sym (fills w t.1 t.2) ∙ yes_full in
       let a : ℕ = w.number in let same : a ≡ number = omega arith in let q : ℕ = c.known.position in let reached : q ≤ a = knows.reached in
-      answers (replied c number frame Duplicate) Duplicate (full_is c w number frame same b) refl refl refl refl refl tt (λ low. absurd (omega arith)) (λ g has. tt)
+      answers (replied c number frame Duplicate) Duplicate (full_is c w number frame same b) refl refl refl refl refl tt (same, b) (λ low. absurd (omega arith)) (λ g has. tt)
 
 -- a filer's seat between its load and its publish: it was the caller c, and is in flight. It knew no later position, and not that the number was accepted
 pub record Flying (before : View) (now : SeatState) (who spare number cell : ℕ) (frame : List ℕ) : Type 0 where
@@ -150,6 +154,7 @@ pub record Refused (c : Calling) (w : SlotWord) (n : ℕ) (f : List ℕ) : Type 
   pub flight : calling.flight ≡ None
   pub fits : ReplyFits n reply
   pub settled : IsSettled reply
+  pub says : IsReplyOf w n reply
 
 refused : (c : Calling) (w : SlotWord) (n : ℕ) (f : List ℕ) → n ≤ w.number → (w.number ≡ n → w.filled ≡ true) → Fits w → Refused c w n f
 refused c w n f le full small = go (nat_lt n w.number) refl
@@ -157,10 +162,10 @@ refused c w n f le full small = go (nat_lt n w.number) refl
     go : (greater : Bool) → nat_lt n w.number ≡ greater → Refused c w n f
     go true g =
         let a : ℕ = w.number in let above : n < a = grind (arith, nat_tests) in let top : a < 281474976710656 = small.0 in
-        record { reply = Late a; same = ap (λ (b : Bool). cond b (Late w.number) Duplicate) (sym g); calling = late c n f a; is = late_is c w n f above; list = refl; known = refl; who = refl; spare = refl; flight = refl; fits = (above, omega arith); settled = tt }
+        record { reply = Late a; same = ap (λ (b : Bool). cond b (Late w.number) Duplicate) (sym g); calling = late c n f a; is = late_is c w n f above; list = refl; known = refl; who = refl; spare = refl; flight = refl; fits = (above, omega arith); settled = tt; says = (above, refl) }
     go false g =
         let a : ℕ = w.number in let equal : a ≡ n = grind (arith, nat_tests) in
-        record { reply = Duplicate; same = ap (λ (b : Bool). cond b (Late w.number) Duplicate) (sym g); calling = replied c n f Duplicate; is = full_is c w n f equal (full equal); list = refl; known = refl; who = refl; spare = refl; flight = refl; fits = tt; settled = tt }
+        record { reply = Duplicate; same = ap (λ (b : Bool). cond b (Late w.number) Duplicate) (sym g); calling = replied c n f Duplicate; is = full_is c w n f equal (full equal); list = refl; known = refl; who = refl; spare = refl; flight = refl; fits = tt; settled = tt; says = (equal, full equal) }
 
 pub after_accept : (me now ready last : SeatState) (who spare number cell found : ℕ) (frame : List ℕ) → Flying me.0 now who spare number cell frame → ready ≡ (now.0, (spare, Some frame) ∷ []) → told publish ready found last
     → found ≡ pack_slot (free_word number cell) → Filed me last number frame Accepted who cell
@@ -174,7 +179,7 @@ after_accept me now ready last who spare number cell found frame f is tells hit 
     let done : (y : Kept) × (last ≡ (caller_view ready.0.shape d, (cell, y) ∷ [])) = elim t [ inl a ↦ a.1 | inr b ↦ absurd (b.0 hit) ] in
     let at : last ≡ (caller_view shape d, (cell, done.0) ∷ []) = done.1 ∙ (λ i. (caller_view (same i) d, (cell, done.0) ∷ [])) in
     let q : ℕ = c.known.position in let reached : q ≤ number = f.reached in
-    filed me last number frame Accepted who cell c d done.0 f.was at refl refl f.mine refl f.low f.word.1 refl refl (f.first, f.last) (λ low. absurd (omega arith)) (λ g has. absurd (f.unknown g has))
+    filed me last number frame Accepted who cell c d done.0 f.was at refl refl f.mine refl f.low f.word.1 refl refl (f.first, f.last) (free_word number cell) (record { fits = f.word; congruent = refl; first = f.first; last = f.last; reached = f.reached }) (refl, refl) (λ low. absurd (omega arith)) (λ g has. absurd (f.unknown g has))
 
 pub after_refuse : (me now ready last : SeatState) (who spare number cell found : ℕ) (frame : List ℕ) (reply : FileReply) → Flying me.0 now who spare number cell frame → ready ≡ (now.0, (spare, Some frame) ∷ []) → told publish ready found last
     → (found ≡ pack_slot (free_word number cell) → ⊥) → ((w : SlotWord) → found ≡ pack_slot w → Fits w → number ≤ w.number → reply ≡ reply_after w number) → Filed me last number frame reply who spare
@@ -191,10 +196,11 @@ after_refuse me now ready last who spare number cell found frame reply f is tell
     let held : ready.1 ≡ (spare, Some frame) ∷ [] = ap (λ (m : SeatState). m.1) is in
     let at : last ≡ (caller_view shape d, (spare, Some frame) ∷ []) = b.5 ∙ (λ i. (caller_view (same i) (r.is i), held i)) in
     let q : ℕ = c.known.position in let reached : q ≤ number = f.reached in
+    let of_shape : WordTells ready.0.shape e number w → IsOfSlot shape c.known number w = λ knows. subst (λ (k : Shape). IsOfSlot k c.known number w) same (record { fits = b.2; congruent = knows.congruent; first = knows.first; last = knows.last; reached = knows.reached }) in
     subst (λ (x : FileReply). Filed me last number frame x who spare) (r.same ∙ sym (says w b.1 b.2 b.3))
-    (filed me last number frame r.reply who spare c d (Some frame) f.was at (r.spare ∙ f.spare_is) r.flight f.mine r.who f.low f.small r.list r.known r.fits (λ low. absurd (omega arith)) (λ g has. r.settled))
+    (filed me last number frame r.reply who spare c d (Some frame) f.was at (r.spare ∙ f.spare_is) r.flight f.mine r.who f.low f.small r.list r.known r.fits w (of_shape b.6) r.says (λ low. absurd (omega arith)) (λ g has. r.settled))
   where
     missed : AfterPublish ready.0.shape (in_flight f.calling number cell frame) (record { number = number; cell = cell; frame = frame }) ready.1 found last
-        → (w : SlotWord) × (found ≡ pack_slot w) × Fits w × (number ≤ w.number) × (w.number ≡ number → w.filled ≡ true) × (last ≡ (caller_view ready.0.shape (loaded (in_flight f.calling number cell frame) w number frame), ready.1))
+        → (w : SlotWord) × (found ≡ pack_slot w) × Fits w × (number ≤ w.number) × (w.number ≡ number → w.filled ≡ true) × (last ≡ (caller_view ready.0.shape (loaded (in_flight f.calling number cell frame) w number frame), ready.1)) × WordTells ready.0.shape (in_flight f.calling number cell frame) number w
     missed (inl a) = absurd (miss a.0)
     missed (inr b) = b.1

@@ -1,21 +1,22 @@
 -- How what contracts see of a pass follows from its seat.
 use Rattle.std.proofs.Common.{◌≡◌, ℕ, ◌+◌, ◌<◌, ◌≤◌, List, [], ◌∷◌, ◌++◌, None, refl, sym, ap, ◌∙◌, subst}
 use Rattle.atomic_table.specs.Seated.{TableId}
-use Rattle.play_machine.specs.declared.call.Call.{Call}
-use Rattle.play_machine.specs.declared.call.Call.TheVariants.{FileCall}
-use Rattle.play_machine.specs.declared.reply.FileReply.{FileReply}
-use Rattle.play_machine.specs.declared.views.Shape.{Shape}
-use Rattle.play_machine.specs.declared.views.Known.{Known}
-use Rattle.play_machine.specs.declared.views.Calling.{Calling}
-use Rattle.play_machine.specs.declared.views.Role.{Role}
-use Rattle.play_machine.specs.declared.views.Role.TheVariants.{Caller}
-use Rattle.play_machine.specs.declared.views.View.{View}
-use Rattle.play_machine.specs.Machine.{start}
-use Rattle.play_machine.specs.History.{ticks, ReplyFits}
-use Rattle.play_machine.specs.Ring.{Has}
-use Rattle.play_machine.specs.Steps.{caller_view, position_of}
+use Rattle.playout.specs.declared.call.Call.{Call}
+use Rattle.playout.specs.declared.call.Call.TheVariants.{FileCall}
+use Rattle.playout.specs.declared.reply.FileReply.{FileReply}
+use Rattle.ring_core.specs.declared.words.SlotWord.{SlotWord}
+use Rattle.ring_core.specs.declared.views.Shape.{Shape}
+use Rattle.ring_core.specs.declared.views.Known.{Known}
+use Rattle.ring_core.specs.declared.views.Calling.{Calling}
+use Rattle.ring_core.specs.declared.views.Role.{Role}
+use Rattle.ring_core.specs.declared.views.Role.TheVariants.{Caller}
+use Rattle.ring_core.specs.declared.views.View.{View}
+use Rattle.playout.specs.Machine.{start}
+use Rattle.playout.specs.History.{ticks, ReplyFits}
+use Rattle.ring_core.specs.Ring.{Has}
+use Rattle.ring_core.specs.Steps.{caller_view, position_of}
 use Rattle.step_table.specs.Packed.{Kept, SeatState}
-use Rattle.slot_ring.specs.Seen.{PassView, pass_view, position_in, who_in, list_in, known_in, Grown, known_after, IsLate, IsSettled}
+use Rattle.slot_ring.specs.Seen.{PassView, pass_view, position_in, who_in, list_in, known_in, Grown, known_after, IsLate, IsSettled, IsOfSlot, IsReplyOf, SlotSays}
 use Rattle.slot_ring.specs.Kept.{IsFilers, FiledBy}
 
 -- the seat's caller made this call
@@ -54,12 +55,13 @@ pub record Filed (me last : SeatState) (n : ℕ) (f : List ℕ) (reply : FileRep
   pub fits : ReplyFits n reply
   pub late : n < (known_in me.0.role).position → IsLate reply
   pub settled : (g : List ℕ) → Has (known_in me.0.role).pairs n g → IsSettled reply
+  pub word : (w : SlotWord) × IsOfSlot me.0.shape (known_in me.0.role) n w × IsReplyOf w n reply
 
 pub filed : (me last : SeatState) (n : ℕ) (f : List ℕ) (reply : FileReply) (who spare : ℕ) (c d : Calling) (z : Kept) → me.0 ≡ caller_view me.0.shape c → last ≡ (caller_view me.0.shape d, (spare, z) ∷ [])
     → d.spare ≡ spare → d.flight ≡ None → c.who ≡ who → d.who ≡ c.who → who < me.0.shape.filers → spare < 32768
     → d.list ≡ c.list ++ FileCall n f reply ∷ [] → d.known ≡ known_after c.known (position_of c) (FileCall n f reply)
-    → ReplyFits n reply → (n < c.known.position → IsLate reply) → ((g : List ℕ) → Has c.known.pairs n g → IsSettled reply) → Filed me last n f reply who spare
-filed me last n f reply who spare c d z is will cell ground mine same low small list known fits late settled =
+    → ReplyFits n reply → (w : SlotWord) → IsOfSlot me.0.shape c.known n w → IsReplyOf w n reply → (n < c.known.position → IsLate reply) → ((g : List ℕ) → Has c.known.pairs n g → IsSettled reply) → Filed me last n f reply who spare
+filed me last n f reply who spare c d z is will cell ground mine same low small list known fits w of_slot says late settled =
     let k : Known = c.known in
     let knew : known_in me.0.role ≡ c.known = ap (λ (v : View). known_in v.role) is in
     record {
@@ -68,6 +70,7 @@ filed me last n f reply who spare c d z is will cell ground mine same low small 
       fits = fits;
       late = subst (λ (x : Known). n < x.position → IsLate reply) (sym knew) late;
       settled = subst (λ (x : Known). (g : List ℕ) → Has x.pairs n g → IsSettled reply) (sym knew) settled;
+      word = (w, subst (λ (x : Known). IsOfSlot me.0.shape x n w) (sym knew) of_slot, says);
     }
 
 pub filed_by : (at now_at : TableId) (me last : SeatState) (old : PassView) (n : ℕ) (f : List ℕ) (reply : FileReply) (who spare : ℕ) → Filed me last n f reply who spare → now_at ≡ at → pass_view (record { id = at; shape = me.0.shape }) me.0.role ≡ old
@@ -79,4 +82,5 @@ filed_by at now_at me last old n f reply who spare x same is =
       fits = x.fits;
       late = subst (λ (p : PassView). n < p.known.position → IsLate reply) is x.late;
       settled = subst (λ (p : PassView). (g : List ℕ) → Has p.known.pairs n g → IsSettled reply) is x.settled;
+      word = subst (λ (p : PassView). SlotSays p n reply) is x.word;
     }

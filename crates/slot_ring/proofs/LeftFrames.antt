@@ -7,19 +7,19 @@ use mathlib.Core.Option as maybe
 use lib.ListN.{get_elem?}
 use Rattle.std.proofs.lemmas.Bool.Decides.{nat_tests}
 use Rattle.std.specs.FinMap as finmap
-use Rattle.play_machine.specs.declared.call.Call.{Call}
-use Rattle.play_machine.specs.declared.views.Shape.{Shape}
-use Rattle.play_machine.specs.declared.views.Pooling.{Pooling}
-use Rattle.play_machine.specs.declared.words.SlotWord.{SlotWord}
-use Rattle.play_machine.specs.declared.words.Cell.TheVariants.{AtHome}
-use Rattle.play_machine.specs.Machine.{Machine, opening_machine}
-use Rattle.play_machine.specs.History.{after_all}
-use Rattle.play_machine.specs.Ring.{Ring, slot_count, RingRule}
-use Rattle.play_machine.specs.Steps.{pool_view}
-use Rattle.play_machine.proofs.Kept.{at_exists, slots_positive}
-use Rattle.play_machine.proofs.Filed.{window_holds}
-use Rattle.play_machine.proofs.Told.{turn_apart}
-use Rattle.play_machine.proofs.AllSteps.{all_gathered}
+use Rattle.playout.specs.declared.call.Call.{Call}
+use Rattle.ring_core.specs.declared.views.Shape.{Shape}
+use Rattle.ring_core.specs.declared.views.Pooling.{Pooling}
+use Rattle.ring_core.specs.declared.words.SlotWord.{SlotWord}
+use Rattle.ring_core.specs.declared.words.Cell.TheVariants.{AtHome}
+use Rattle.playout.specs.Machine.{Machine, opening_machine}
+use Rattle.playout.specs.History.{after_all}
+use Rattle.ring_core.specs.Ring.{Ring, slot_count, RingRule}
+use Rattle.ring_core.specs.Steps.{pool_view}
+use Rattle.ring_core.proofs.Kept.{at_exists, slots_positive}
+use Rattle.playout.proofs.FilingLaws.{window_holds}
+use Rattle.playout.proofs.AheadLaws.{turn_apart}
+use Rattle.ring_core.proofs.AllSteps.{all_gathered}
 use Rattle.step_table.specs.Packed.{Kept, pack_slot, pack_berth, filled_bit, words_of, Fits}
 use Rattle.step_table.specs.Ends.{ClosedView, Ends}
 use Rattle.slot_ring.specs.Remains.{read_at, frames_left, AllGathered, Ended}

@@ -8,7 +8,7 @@ use Rattle.std.specs.FinMap.{gets}
 use Rattle.std.specs.FinMap.Entries.{find, below_all, is_sorted}
 use Rattle.std.specs.Ordering.{nat_cmp, eq_by_cmp}
 use Rattle.std.specs.Cmp.{nat_cmp_total}
-use Rattle.play_machine.specs.Machine.{Frames}
+use Rattle.playout.specs.Machine.{Frames}
 use Rattle.step_table.specs.Packed.{Kept}
 use Rattle.slot_ring.specs.Remains.{with_number, pairs_from}
 

@@ -1,10 +1,10 @@
 -- One word more of the opening ring.
 use Rattle.std.proofs.Common.{◌≡◌, ℕ, suc, zero, ◌+◌, ◌*◌, List, [], ◌∷◌, ◌++◌, map, sym, ap, ◌∙◌, arith, append_assoc, ◌%◌, ◌^◌, ◌≤◌}
 use Rattle.std.proofs.Math.Nat.{pow-le-pow_right}
-use Rattle.play_machine.specs.Machine.{start}
-use Rattle.play_machine.specs.Steps.{free_word}
-use Rattle.play_machine.specs.Opening.{slots_from, berths_from}
-use Rattle.play_machine.specs.declared.words.Berth.TheVariants.{Fresh}
+use Rattle.playout.specs.Machine.{start}
+use Rattle.ring_core.specs.Steps.{free_word}
+use Rattle.ring_core.specs.Opening.{slots_from, berths_from}
+use Rattle.ring_core.specs.declared.words.Berth.TheVariants.{Fresh}
 use Rattle.step_table.specs.Packed.{pack_slot, pack_berth}
 
 pub slots-snoc : (a n : ℕ) → map pack_slot (slots_from a (suc n)) ≡ map pack_slot (slots_from a n) ++ pack_slot (free_word (start + (a + n)) (a + n)) ∷ []

@@ -1,17 +1,17 @@
 -- The seats of blanks, gathers and callers that enlist or leave.
 use Rattle.std.proofs.Common.{◌≡◌, ℕ, zero, suc, ◌+◌, ◌<◌, ◌≤◌, List, [], ◌∷◌, Option, Some, None, true, refl, sym, ap, ◌∙◌, subst}
 use Rattle.std.specs.Prelude.{slice_get, replicate}
-use Rattle.play_machine.specs.declared.call.Call.{Call}
-use Rattle.play_machine.specs.declared.words.Berth.TheVariants.{Fresh}
-use Rattle.play_machine.specs.declared.views.Shape.{Shape}
-use Rattle.play_machine.specs.declared.views.Known.{Known}
-use Rattle.play_machine.specs.declared.views.Pooling.{Pooling}
-use Rattle.play_machine.specs.declared.views.Calling.{Calling}
-use Rattle.play_machine.specs.declared.views.Departing.{Departing}
-use Rattle.play_machine.specs.Machine.{start}
-use Rattle.play_machine.specs.History.{ticks}
-use Rattle.play_machine.specs.Ring.{slot_count}
-use Rattle.play_machine.specs.Steps.{pool_view, caller_view, newcomer, without, only, with_list}
+use Rattle.playout.specs.declared.call.Call.{Call}
+use Rattle.ring_core.specs.declared.words.Berth.TheVariants.{Fresh}
+use Rattle.ring_core.specs.declared.views.Shape.{Shape}
+use Rattle.ring_core.specs.declared.views.Known.{Known}
+use Rattle.ring_core.specs.declared.views.Pooling.{Pooling}
+use Rattle.ring_core.specs.declared.views.Calling.{Calling}
+use Rattle.ring_core.specs.declared.views.Departing.{Departing}
+use Rattle.playout.specs.Machine.{start}
+use Rattle.playout.specs.History.{ticks}
+use Rattle.ring_core.specs.Ring.{slot_count}
+use Rattle.ring_core.specs.Steps.{pool_view, caller_view, newcomer, without, only, with_list}
 use Rattle.step_table.specs.Packed.{Kept, SeatState, pack_berth}
 use Rattle.step_table.specs.Kinds.{StepKind, split, gather, enlist, left_of, right_of, both_of, MaySwap, told}
 use Rattle.slot_ring.specs.Seen.{rights_in, known_in, nothing_known}

@@ -1,7 +1,7 @@
 -- The lists of all callers are there.
 use Rattle.std.proofs.Common.{◌≡◌, ℕ, zero, suc, ◌+◌, ◌<◌, ◌≤◌, List, [], ◌∷◌, length, Bool, true, false, Some, refl, sym, ap, ◌∙◌, subst, arith}
 use Rattle.std.specs.Prelude.{Option, replicate, slice_get, slice_set}
-use Rattle.play_machine.specs.declared.call.Call.{Call}
+use Rattle.playout.specs.declared.call.Call.{Call}
 use Rattle.slot_ring.specs.Seen.{no_lists}
 use Rattle.slot_ring.specs.Remains.{AllGathered}
 

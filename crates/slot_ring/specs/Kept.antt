@@ -1,19 +1,19 @@
 -- What passes, blanks, gathers and notes keep between calls, and what one file call comes to.
 use Rattle.std.specs.Prelude.{◌≡◌, ℕ, ◌+◌, ◌%◌, ◌<◌, ◌≤◌, List, [], ◌∷◌, Option, None, nat_lt, if◌then◌else◌}
-use Rattle.play_machine.specs.declared.call.Call.TheVariants.{FileCall}
-use Rattle.play_machine.specs.declared.reply.FileReply.{FileReply}
-use Rattle.play_machine.specs.declared.reply.FileReply.TheVariants.{Accepted, Duplicate, Late, Beyond}
-use Rattle.play_machine.specs.declared.words.SlotWord.{SlotWord}
-use Rattle.play_machine.specs.declared.views.Shape.{Shape}
-use Rattle.play_machine.specs.declared.views.Known.{Known}
-use Rattle.play_machine.specs.declared.views.Calling.{Calling}
-use Rattle.play_machine.specs.declared.views.Pooling.{Pooling}
-use Rattle.play_machine.specs.declared.views.Departing.{Departing}
-use Rattle.play_machine.specs.History.{ReplyFits}
-use Rattle.play_machine.specs.Ring.{Has}
-use Rattle.play_machine.specs.Steps.{caller_view, position_of, pool_view, gone_view, note_view}
+use Rattle.playout.specs.declared.call.Call.TheVariants.{FileCall}
+use Rattle.playout.specs.declared.reply.FileReply.{FileReply}
+use Rattle.playout.specs.declared.reply.FileReply.TheVariants.{Accepted, Duplicate, Late, Beyond}
+use Rattle.ring_core.specs.declared.words.SlotWord.{SlotWord}
+use Rattle.ring_core.specs.declared.views.Shape.{Shape}
+use Rattle.ring_core.specs.declared.views.Known.{Known}
+use Rattle.ring_core.specs.declared.views.Calling.{Calling}
+use Rattle.ring_core.specs.declared.views.Pooling.{Pooling}
+use Rattle.ring_core.specs.declared.views.Departing.{Departing}
+use Rattle.playout.specs.History.{ReplyFits}
+use Rattle.ring_core.specs.Ring.{Has}
+use Rattle.ring_core.specs.Steps.{caller_view, position_of, pool_view, gone_view, note_view}
 use Rattle.step_table.specs.Packed.{Kept, SeatState}
-use Rattle.slot_ring.specs.Seen.{PassView, position_in, Grown, known_after, no_lists, IsLate, IsSettled}
+use Rattle.slot_ring.specs.Seen.{PassView, position_in, Grown, known_after, no_lists, IsLate, IsSettled, SlotSays}
 
 -- the player's caller, which has this spare cell, at this position
 abbrev pub IsPlayers : SeatState → ℕ → ℕ → Type 0
@@ -45,6 +45,7 @@ pub record FiledBy (a : PassView) (n : ℕ) (f : List ℕ) (reply : FileReply) (
   pub call : Grown a (FileCall n f reply) b
   pub known : b.known ≡ known_after a.known (position_in a) (FileCall n f reply)
   pub fits : ReplyFits n reply
+  pub word : SlotSays a n reply
   -- below a position that was known it is late
   pub late : n < a.known.position → IsLate reply
   -- what was known to be accepted is not accepted again

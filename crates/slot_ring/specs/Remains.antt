@@ -1,11 +1,11 @@
 -- What a ring that was closed leaves.
 use Rattle.std.specs.Prelude.{◌≡◌, ℕ, zero, suc, ◌+◌, ◌-◌, ◌*◌, ◌/◌, ◌%◌, ◌≤◌, ◌==◌, ◌&&◌, List, [], ◌∷◌, Option, Some, None, slice_get, slice_index, slice_index_or, nat_lt, not, if◌then◌else◌}
 use Rattle.std.specs.FinMap as map
-use Rattle.play_machine.specs.declared.call.Call.{Call}
-use Rattle.play_machine.specs.declared.views.Shape.{Shape}
-use Rattle.play_machine.specs.Machine.{opening_machine}
-use Rattle.play_machine.specs.History.{Entry, IsLegal, AllMayCall, after_all, calls_of}
-use Rattle.play_machine.specs.Ring.{slot_count}
+use Rattle.playout.specs.declared.call.Call.{Call}
+use Rattle.ring_core.specs.declared.views.Shape.{Shape}
+use Rattle.playout.specs.Machine.{opening_machine}
+use Rattle.playout.specs.History.{Entry, IsLegal, AllMayCall, after_all, calls_of}
+use Rattle.ring_core.specs.Ring.{slot_count}
 use Rattle.step_table.specs.Packed.{Kept}
 
 -- the frames that are left by number, and the lists that were gathered

@@ -1,17 +1,22 @@
 -- What contracts see of passes, blanks, gathers and notes.
-use Rattle.std.specs.Prelude.{◌≡◌, ℕ, ◌+◌, List, [], ◌∷◌, ◌++◌, Option, Some, None, Bool, max, replicate}
+use Rattle.std.specs.Prelude.{◌≡◌, ℕ, ◌+◌, ◌%◌, ◌^◌, ◌<◌, ◌≤◌, List, [], ◌∷◌, ◌++◌, Option, Some, None, IsSome, Bool, true, false, max, replicate}
 use Rattle.frame_codec.specs.declared.item.Item.{Item}
-use Rattle.play_machine.specs.declared.call.Call.{Call}
-use Rattle.play_machine.specs.declared.call.Call.TheVariants.{FileCall, SourceCall, BaseCall, PeekCall, TickCall}
-use Rattle.play_machine.specs.declared.reply.FileReply.{FileReply}
-use Rattle.play_machine.specs.declared.reply.FileReply.TheVariants.{Accepted, Duplicate, Late, Beyond}
-use Rattle.play_machine.specs.declared.views.Known.{Known}
-use Rattle.play_machine.specs.declared.views.Role.{Role}
-use Rattle.play_machine.specs.declared.views.Role.TheVariants.{Pool, Caller, Departed, Note, Spent}
-use Rattle.play_machine.specs.Machine.{start}
-use Rattle.play_machine.specs.History.{ticks}
-use Rattle.play_machine.specs.Steps.{with_pair, at_position, with_source, with_base, either_known}
-use Rattle.step_table.specs.Packed.{Where}
+use Rattle.playout.specs.declared.call.Call.{Call}
+use Rattle.playout.specs.declared.call.Call.TheVariants.{FileCall, SourceCall, BaseCall, PeekCall, TickCall}
+use Rattle.playout.specs.declared.reply.FileReply.{FileReply}
+use Rattle.playout.specs.declared.reply.FileReply.TheVariants.{Accepted, Duplicate, Late, Beyond}
+use Rattle.ring_core.specs.declared.views.Known.{Known}
+use Rattle.ring_core.specs.declared.views.Role.{Role}
+use Rattle.ring_core.specs.declared.views.Role.TheVariants.{Pool, Caller, Departed, Note, Spent}
+use Rattle.playout.specs.Machine.{start, held_or}
+use Rattle.playout.specs.History.{ticks}
+use Rattle.ring_core.specs.declared.words.SlotWord.{SlotWord}
+use Rattle.ring_core.specs.declared.views.Shape.{Shape}
+use Rattle.ring_core.specs.Ring.{slot_count, word_of}
+use Rattle.ring_core.specs.Core.{held_in}
+use Rattle.ring_core.specs.Steps.{taken, with_pair, at_position, with_source, with_base, either_known}
+use Rattle.step_table.specs.Packed.{Where, Kept, Fits}
+use Rattle.step_table.specs.Kinds.{IsHeldWord}
 
 -- of a pass, and of a caller that has left: its ring, the caller's number, its calls so far, and what it knows
 pub record PassView : Type 0 where
@@ -112,3 +117,40 @@ IsSettled Accepted = ⊥
 IsSettled Duplicate = Unit {0}
 IsSettled (Late ahead) = Unit {0}
 IsSettled (Beyond ahead) = ⊥
+
+-- a word that was read of this number's slot: its number is of the slot, lies between the start and the last window, and is no lower than
+-- a position that the reader knew
+pub record IsOfSlot (k : Shape) (knew : Known) (n : ℕ) (w : SlotWord) : Type 0 where
+  pub fits : Fits w
+  pub congruent : w.number % slot_count k ≡ n % slot_count k
+  pub first : start ≤ w.number
+  pub last : w.number < 2 ^ 33 + 1024
+  pub reached : knew.position ≤ w.number
+
+-- what a word says of a number: it has this number, and is free for its frame, or filled; or it has a later number; or an earlier one
+abbrev pub IsReplyOf : SlotWord → ℕ → FileReply → Type 0
+IsReplyOf w n Accepted = (w.number ≡ n) × (w.filled ≡ false)
+IsReplyOf w n Duplicate = (w.number ≡ n) × (w.filled ≡ true)
+IsReplyOf w n (Late ahead) = (n < w.number) × (ahead ≡ w.number)
+IsReplyOf w n (Beyond ahead) = (w.number < n) × (ahead ≡ w.number)
+
+-- a word of the number's slot was read, and the reply is what it says
+abbrev pub SlotSays : PassView → ℕ → FileReply → Type 0
+SlotSays a n reply = (w : SlotWord) × IsOfSlot a.ring.shape a.known n w × IsReplyOf w n reply
+
+-- a word of the tick's number was taken out with its cell: where it is filled the item is the frame in the cell, and else an erasure
+abbrev pub TickSays : ℕ → Item → Type 0
+TickSays n item = (w : SlotWord) × (kept : Kept) × Fits w × (w.number ≡ n) × (item ≡ taken w.filled kept) × (w.filled ≡ true → IsSome kept)
+
+-- a source or base word that was read: nothing, or a value of 32 bits, and the one that the reader knew
+pub record IsHeldRead (knew : Option ℕ) (word : ℕ) : Type 0 where
+  pub fits : IsHeldWord word
+  pub known : (x : ℕ) → knew ≡ Some x → word ≡ word_of (Some x)
+
+-- such a word was read, and the answer is the value in it, or none where it is 0
+abbrev pub PeekSays : Option ℕ → Option ℕ → Type 0
+PeekSays knew answer = (word : ℕ) × IsHeldRead knew word × (answer ≡ held_in word)
+
+-- such a word was read, and the answer is the value in it, or the one that was said where it is 0
+abbrev pub HeldSays : Option ℕ → ℕ → ℕ → Type 0
+HeldSays knew said answer = (word : ℕ) × IsHeldRead knew word × (answer ≡ held_or (held_in word) said)

@@ -4,7 +4,7 @@ ghost use Rattle.std.specs.Prelude.{◌≡◌};
 use crate::pass::FilerPass;
 use crate::ring::SlotRing;
 use frame_codec::Frame33;
-use play_machine::{FileReply, FilerSide};
+use playout::{FileReply, FilerSide};
 use std::marker::Model;
 use std::sync::ledger::Ledger;
 use step_table::Steps;

@@ -1,12 +1,12 @@
 // Filing a frame.
 ghost use Rattle.std.specs.Prelude.{◌≡◌, ℕ, ◌+◌, ◌<◌, ◌≤◌, ◌^◌, List};
-ghost use Rattle.play_machine.specs.declared.call.Call.TheVariants.{FileCall};
-ghost use Rattle.play_machine.specs.declared.words.SlotWord.{SlotWord};
-ghost use Rattle.play_machine.specs.History.{ReplyFits};
-ghost use Rattle.play_machine.specs.Ring.{Has};
+ghost use Rattle.playout.specs.declared.call.Call.TheVariants.{FileCall};
+ghost use Rattle.ring_core.specs.declared.words.SlotWord.{SlotWord};
+ghost use Rattle.playout.specs.History.{ReplyFits};
+ghost use Rattle.ring_core.specs.Ring.{Has};
 ghost use Rattle.step_table.specs.Packed.{pack_slot, Fits};
 ghost use Rattle.step_table.specs.Kinds.{load};
-ghost use Rattle.slot_ring.specs.Seen.{position_in, Grown, known_after, IsLate, IsSettled};
+ghost use Rattle.slot_ring.specs.Seen.{position_in, Grown, known_after, IsLate, IsSettled, SlotSays};
 ghost use Rattle.slot_ring.specs.Kept.{FiledBy, reply_after};
 
 use crate::kinds::Publishes;
@@ -14,7 +14,7 @@ use crate::pass::FilerPass;
 use crate::ring::SlotRing;
 use crate::words::{cell_of, full, is_filled, number_of};
 use frame_codec::Frame33;
-use play_machine::FileReply;
+use playout::FileReply;
 use std::marker::Brand;
 use std::sync::ledger::Ledger;
 use step_table::{Kind, Steps};
@@ -47,6 +47,7 @@ impl SlotRing {
         ensures call { Grown pass.old (FileCall number frame.now result) pass.new }
         ensures known { pass.new.known ≡ known_after pass.old.known (position_in pass.old) (FileCall number frame.now result) }
         ensures fits { ReplyFits number result }
+        ensures word { SlotSays pass.old number result }
         ensures late { number < pass.old.known.position → IsLate result }
         ensures settled { (f : List ℕ) → Has pass.old.known.pairs number f → IsSettled result }
         ensures counted { (steps.old + 1 ≤ steps.new) × (steps.new ≤ steps.old + 2) }

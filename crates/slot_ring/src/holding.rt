@@ -1,8 +1,8 @@
 // The held source and base.
 ghost use Rattle.std.specs.Prelude.{◌≡◌, ℕ, ◌+◌, Some};
-ghost use Rattle.play_machine.specs.declared.call.Call.TheVariants.{SourceCall, BaseCall};
+ghost use Rattle.playout.specs.declared.call.Call.TheVariants.{SourceCall, BaseCall};
 ghost use Rattle.step_table.specs.Kinds.{source, base};
-ghost use Rattle.slot_ring.specs.Seen.{position_in, Grown, known_after};
+ghost use Rattle.slot_ring.specs.Seen.{position_in, Grown, known_after, HeldSays};
 
 use crate::pass::FilerPass;
 use crate::ring::SlotRing;
@@ -18,6 +18,7 @@ impl SlotRing {
         ensures call { Grown pass.old (SourceCall ssrc result) pass.new }
         ensures known { pass.new.known ≡ known_after pass.old.known (position_in pass.old) (SourceCall ssrc result) }
         ensures fresh { (x : ℕ) → pass.old.known.source ≡ Some x → result ≡ x }
+        ensures word { HeldSays pass.old.known.source ssrc result }
         ensures counted { steps.new ≡ steps.old + 1 }
     {
         self.source_as::<Brand, L>(pass, ssrc, steps)
@@ -34,6 +35,7 @@ impl SlotRing {
         ensures call { Grown pass.old (SourceCall ssrc result) pass.new }
         ensures known { pass.new.known ≡ known_after pass.old.known (position_in pass.old) (SourceCall ssrc result) }
         ensures fresh { (x : ℕ) → pass.old.known.source ≡ Some x → result ≡ x }
+        ensures word { HeldSays pass.old.known.source ssrc result }
         ensures counted { steps.new ≡ steps.old + 1 }
     {
         let place = self.source_word();
@@ -49,6 +51,7 @@ impl SlotRing {
         ensures call { Grown pass.old (BaseCall ts result) pass.new }
         ensures known { pass.new.known ≡ known_after pass.old.known (position_in pass.old) (BaseCall ts result) }
         ensures fresh { (x : ℕ) → pass.old.known.base ≡ Some x → result ≡ x }
+        ensures word { HeldSays pass.old.known.base ts result }
         ensures counted { steps.new ≡ steps.old + 1 }
     {
         self.base_as::<Brand, L>(pass, ts, steps)
@@ -65,6 +68,7 @@ impl SlotRing {
         ensures call { Grown pass.old (BaseCall ts result) pass.new }
         ensures known { pass.new.known ≡ known_after pass.old.known (position_in pass.old) (BaseCall ts result) }
         ensures fresh { (x : ℕ) → pass.old.known.base ≡ Some x → result ≡ x }
+        ensures word { HeldSays pass.old.known.base ts result }
         ensures counted { steps.new ≡ steps.old + 1 }
     {
         let place = self.base_word();

@@ -1,6 +1,6 @@
 // What one caller knows, told to another.
 ghost use Rattle.std.specs.Prelude.{◌≡◌, ◌+◌};
-ghost use Rattle.play_machine.specs.Steps.{merged};
+ghost use Rattle.ring_core.specs.Steps.{merged};
 
 use crate::kinds::{Learns, Notes};
 use crate::pass::{FilerPass, PlayerPass};

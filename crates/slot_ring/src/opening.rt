@@ -1,7 +1,7 @@
 // A ring at its start.
 ghost use Rattle.std.specs.Prelude.{◌≡◌, ◌+◌, ◌*◌, ◌^◌, ◌<◌, ◌≤◌, ◌++◌, map, replicate, true, IfOk, OnOk};
-ghost use Rattle.play_machine.specs.declared.views.Shape.{Shape};
-ghost use Rattle.play_machine.specs.Opening.{slots_from, berths_from, opening_ring};
+ghost use Rattle.ring_core.specs.declared.views.Shape.{Shape};
+ghost use Rattle.ring_core.specs.Opening.{slots_from, berths_from, opening_ring};
 ghost use Rattle.step_table.specs.Packed.{pack_slot, pack_berth, words_of};
 ghost use Rattle.slot_ring.specs.Remains.{shape_of};
 

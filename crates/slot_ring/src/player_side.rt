@@ -4,7 +4,7 @@ ghost use Rattle.std.specs.Prelude.{◌≡◌};
 use crate::pass::PlayerPass;
 use crate::ring::SlotRing;
 use frame_codec::Item;
-use play_machine::PlayerSide;
+use playout::PlayerSide;
 use std::marker::Model;
 use std::sync::ledger::Ledger;
 use step_table::Steps;

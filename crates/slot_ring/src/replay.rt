@@ -2,7 +2,7 @@
 use super::tests::START;
 use super::*;
 use frame_codec::{Frame33, Item};
-use play_machine::FileReply;
+use playout::FileReply;
 use std::alloc::Global;
 
 // How often a filer tries a number.

@@ -1,6 +1,6 @@
 // The ring, which its callers share.
 ghost use Rattle.std.specs.Prelude.{◌≡◌, ◌<◌, ◌≤◌, ◌%◌, ◌^◌, ◌+◌};
-ghost use Rattle.play_machine.specs.Ring.{slot_count};
+ghost use Rattle.ring_core.specs.Ring.{slot_count};
 ghost use Rattle.step_table.specs.Kinds.{source_place, base_place};
 
 use frame_codec::Frame33;

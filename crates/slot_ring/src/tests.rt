@@ -4,7 +4,8 @@ ghost use Rattle.slot_ring.specs.Seen.{position_in};
 
 use super::*;
 use frame_codec::{Frame33, Item, frame_of};
-use play_machine::{Call, CoreEvent, FileReply, FilerSide, PlayerSide, core_run};
+use playout::{Call, FileReply, FilerSide, PlayerSide};
+use ring_core::{CoreEvent, core_run};
 use std::alloc::Global;
 use std::marker::Brand;
 use std::sync::ledger;

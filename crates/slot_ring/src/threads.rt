@@ -7,7 +7,7 @@ use super::replay::{Answers, TRIES, has_history};
 use super::tests::{START, Z};
 use super::*;
 use frame_codec::{Frame33, Item, frame_of};
-use play_machine::FileReply;
+use playout::FileReply;
 use std::alloc::Global;
 use std::marker::Brand;
 use std::sync::ledger;

@@ -2,10 +2,10 @@
 ghost use Rattle.std.specs.Prelude.{◌≡◌, ◌≢◌, ℕ, ◌+◌, ◌<◌, ◌^◌, List, Some};
 ghost use Rattle.frame_codec.specs.declared.item.Item.{Item};
 ghost use Rattle.frame_codec.specs.declared.item.Item.TheVariants.{Frame, Idle};
-ghost use Rattle.play_machine.specs.declared.call.Call.TheVariants.{TickCall, PeekCall};
-ghost use Rattle.play_machine.specs.Ring.{Has};
-ghost use Rattle.play_machine.specs.Steps.{taken};
-ghost use Rattle.slot_ring.specs.Seen.{position_in, Grown, known_after};
+ghost use Rattle.playout.specs.declared.call.Call.TheVariants.{TickCall, PeekCall};
+ghost use Rattle.ring_core.specs.Ring.{Has};
+ghost use Rattle.ring_core.specs.Steps.{taken};
+ghost use Rattle.slot_ring.specs.Seen.{position_in, Grown, known_after, TickSays, PeekSays};
 
 use crate::kinds::{Peeks, Ticks};
 use crate::pass::PlayerPass;
@@ -38,6 +38,7 @@ impl SlotRing {
         ensures known { pass.new.known ≡ known_after pass.old.known (position_in pass.old) (TickCall result) }
         ensures position { position_in pass.new ≡ position_in pass.old + 1 }
         ensures played { result ≢ Idle }
+        ensures word { TickSays (position_in pass.old) result }
         ensures fresh { (f : List ℕ) → Has pass.old.known.pairs (position_in pass.old) f → result ≡ Frame f }
         ensures counted { steps.new ≡ steps.old + 1 }
     {
@@ -61,6 +62,7 @@ impl SlotRing {
         ensures known { pass.new.known ≡ known_after pass.old.known (position_in pass.old) (PeekCall result) }
         ensures position { position_in pass.new ≡ position_in pass.old }
         ensures fresh { (x : ℕ) → pass.old.known.base ≡ Some x → result ≡ Some x }
+        ensures word { PeekSays pass.old.known.base result }
         ensures counted { steps.new ≡ steps.old + 1 }
     {
         let place = self.base_word();

@@ -1,12 +1,12 @@
 // Words as numbers: a slot's has bit 63 filled, bits 48 to 62 the cell, bits 0 to 47 the number; a berth's is four times the cell and
 // the state; a held value's is 0 for none, else 2^32 and the value.
 ghost use Rattle.std.specs.Prelude.{◌≡◌, ℕ, ◌<◌, ◌/◌, ◌%◌, Some};
-ghost use Rattle.play_machine.specs.declared.words.SlotWord.{SlotWord};
-ghost use Rattle.play_machine.specs.declared.words.Berth.TheVariants.{Fresh, Home};
-ghost use Rattle.play_machine.specs.Machine.{held_or};
-ghost use Rattle.play_machine.specs.Ring.{word_of};
-ghost use Rattle.play_machine.specs.Core.{held_in};
-ghost use Rattle.play_machine.specs.Steps.{free_word, full_word};
+ghost use Rattle.ring_core.specs.declared.words.SlotWord.{SlotWord};
+ghost use Rattle.ring_core.specs.declared.words.Berth.TheVariants.{Fresh, Home};
+ghost use Rattle.playout.specs.Machine.{held_or};
+ghost use Rattle.ring_core.specs.Ring.{word_of};
+ghost use Rattle.ring_core.specs.Core.{held_in};
+ghost use Rattle.ring_core.specs.Steps.{free_word, full_word};
 ghost use Rattle.step_table.specs.Packed.{pack_slot, pack_berth, Fits};
 ghost use Rattle.step_table.specs.Kinds.{IsHeldWord, word_read};
 

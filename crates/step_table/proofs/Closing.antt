@@ -4,10 +4,10 @@ use mathlib.Core.Option as maybe
 use lib.ListN.{get_elem?}
 use Rattle.atomic_table.specs.Table.{Seen, Final}
 use Rattle.atomic_table.proofs.Lists.{at_map}
-use Rattle.play_machine.specs.declared.views.Shape.{Shape}
-use Rattle.play_machine.specs.declared.views.View.{View}
-use Rattle.play_machine.specs.declared.words.Cell.TheVariants.{AtHome}
-use Rattle.play_machine.specs.Ring.{Ring}
+use Rattle.ring_core.specs.declared.views.Shape.{Shape}
+use Rattle.ring_core.specs.declared.views.View.{View}
+use Rattle.ring_core.specs.declared.words.Cell.TheVariants.{AtHome}
+use Rattle.ring_core.specs.Ring.{Ring}
 use Rattle.step_table.specs.Packed.{Kept, Holds, home_of}
 use Rattle.step_table.specs.Ends.{Ends}
 

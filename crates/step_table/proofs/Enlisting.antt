@@ -8,17 +8,17 @@ use lib.ListN.{get_elem?}
 use lib.Seq.{map-set}
 use Rattle.atomic_table.specs.Table.{takes, Allows}
 use Rattle.atomic_table.proofs.Lists.{at_map}
-use Rattle.play_machine.specs.declared.call.Call.{Call}
-use Rattle.play_machine.specs.declared.views.Shape.{Shape}
-use Rattle.play_machine.specs.declared.views.Pooling.{Pooling}
-use Rattle.play_machine.specs.declared.views.View.{View}
-use Rattle.play_machine.specs.Ring.{Ring, slot_count, Place, in_berth, StandsIn, RingRule}
-use Rattle.play_machine.specs.declared.words.Berth.TheVariants.{Fresh, Out}
-use Rattle.play_machine.specs.declared.words.Cell.TheVariants.{AtHome, OutWith}
-use Rattle.play_machine.specs.Steps.{pool_view, caller_view, newcomer, enlist_at}
-use Rattle.play_machine.proofs.Kept.{at_exists}
-use Rattle.play_machine.proofs.Enlist.{right_is_fresh, was}
-use Rattle.play_machine.proofs.AllSteps.{all_steps}
+use Rattle.playout.specs.declared.call.Call.{Call}
+use Rattle.ring_core.specs.declared.views.Shape.{Shape}
+use Rattle.ring_core.specs.declared.views.Pooling.{Pooling}
+use Rattle.ring_core.specs.declared.views.View.{View}
+use Rattle.ring_core.specs.Ring.{Ring, slot_count, Place, in_berth, StandsIn, RingRule}
+use Rattle.ring_core.specs.declared.words.Berth.TheVariants.{Fresh, Out}
+use Rattle.ring_core.specs.declared.words.Cell.TheVariants.{AtHome, OutWith}
+use Rattle.ring_core.specs.Steps.{pool_view, caller_view, newcomer, enlist_at}
+use Rattle.ring_core.proofs.Kept.{at_exists}
+use Rattle.ring_core.proofs.Enlist.{right_is_fresh, was}
+use Rattle.ring_core.proofs.AllSteps.{all_steps}
 use Rattle.step_table.specs.Packed.{Kept, SeatState, pack_slot, pack_berth, home_of, Holds, HeldFit}
 use Rattle.step_table.specs.Kinds.{enlist, MaySwap, told}
 use Rattle.step_table.proofs.Spelling.{index_middle, set_middle}

@@ -8,20 +8,20 @@ use lib.Seq.{map-set}
 use prog.Atomic.{either}
 use Rattle.atomic_table.specs.Table.{keeps, takes, gives, chain, Allows}
 use Rattle.atomic_table.proofs.Lists.{set_else, set_again, at_map, exchanged}
-use Rattle.play_machine.specs.declared.views.Shape.{Shape}
-use Rattle.play_machine.specs.declared.views.Flight.{Flight}
-use Rattle.play_machine.specs.declared.views.Calling.{Calling}
-use Rattle.play_machine.specs.declared.views.Role.{Role}
-use Rattle.play_machine.specs.declared.views.Role.TheVariants.{Caller}
-use Rattle.play_machine.specs.declared.views.View.{View}
-use Rattle.play_machine.specs.Ring.{Ring, slot_count, FlightFits, RingRule}
-use Rattle.play_machine.specs.declared.words.SlotWord.{SlotWord}
-use Rattle.play_machine.specs.declared.words.Cell.TheVariants.{AtHome, OutWith}
-use Rattle.play_machine.specs.Steps.{caller_view, free_word, full_word, loaded, published, publish_at, view_at}
-use Rattle.play_machine.proofs.Seats.{at_one}
-use Rattle.play_machine.proofs.Kept.{at_exists, slots_positive}
-use Rattle.play_machine.proofs.Cells as cells
-use Rattle.play_machine.proofs.AllSteps.{all_steps}
+use Rattle.ring_core.specs.declared.views.Shape.{Shape}
+use Rattle.ring_core.specs.declared.views.Flight.{Flight}
+use Rattle.ring_core.specs.declared.views.Calling.{Calling}
+use Rattle.ring_core.specs.declared.views.Role.{Role}
+use Rattle.ring_core.specs.declared.views.Role.TheVariants.{Caller}
+use Rattle.ring_core.specs.declared.views.View.{View}
+use Rattle.ring_core.specs.Ring.{Ring, slot_count, FlightFits, RingRule}
+use Rattle.ring_core.specs.declared.words.SlotWord.{SlotWord}
+use Rattle.ring_core.specs.declared.words.Cell.TheVariants.{AtHome, OutWith}
+use Rattle.ring_core.specs.Steps.{caller_view, free_word, full_word, loaded, published, publish_at, view_at}
+use Rattle.ring_core.proofs.Seats.{at_one}
+use Rattle.ring_core.proofs.Kept.{at_exists, slots_positive}
+use Rattle.ring_core.proofs.Cells as cells
+use Rattle.ring_core.proofs.AllSteps.{all_steps}
 use Rattle.step_table.proofs.Telling.{tells_of}
 use Rattle.step_table.specs.Packed.{Kept, SeatState, pack_slot, filled_bit, pack_berth, words_of, home_of, Holds, HeldFit, Fits}
 use Rattle.step_table.specs.Kinds.{load, publish, MayLoad, MayExchange, AfterLoad, AfterPublish, told, WordTells}
@@ -118,7 +118,7 @@ publish_goes k s rule keep id c f at filer flying small old new was more =
     let d : Calling = loaded c w f.number f.frame in
     let u : View = caller_view k d in
     let full : w.number ≡ f.number → w.filled ≡ true = λ e. filled_if w.filled refl (λ free. miss (shows ∙ (ap pack_slot (free_is w f e free (flight.1 e free)) ∙ sym was))) in
-    let tells : AfterPublish k c f held r (u, held) = inr ((λ e. miss (e ∙ sym was)), (w, shows, fits, flight.0, full, refl)) in (
+    let tells : AfterPublish k c f held r (u, held) = inr ((λ e. miss (e ∙ sym was)), (w, shows, fits, flight.0, full, refl, tells_of k s rule id c f.number w at there.1)) in (
       u,
       keeps,
       tt,

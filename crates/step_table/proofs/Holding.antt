@@ -6,16 +6,16 @@ use lib.ListN.{get_elem?}
 use prog.Atomic.{either}
 use Rattle.atomic_table.specs.Table.{keeps, Allows}
 use Rattle.atomic_table.proofs.Lists.{exchanged}
-use Rattle.play_machine.specs.declared.views.Shape.{Shape}
-use Rattle.play_machine.specs.declared.views.Calling.{Calling}
-use Rattle.play_machine.specs.declared.views.View.{View}
-use Rattle.play_machine.specs.Machine.{Machine, opening_machine, held_or}
-use Rattle.play_machine.specs.History.{after_all}
-use Rattle.play_machine.specs.Ring.{Ring, RingRule, word_of}
-use Rattle.play_machine.specs.Core.{held_in}
-use Rattle.play_machine.specs.Steps.{caller_view, sourced, source_at, based, base_at, peeked, view_at}
-use Rattle.play_machine.proofs.Core.{held_is}
-use Rattle.play_machine.proofs.AllSteps.{all_steps, all_fresh}
+use Rattle.ring_core.specs.declared.views.Shape.{Shape}
+use Rattle.ring_core.specs.declared.views.Calling.{Calling}
+use Rattle.ring_core.specs.declared.views.View.{View}
+use Rattle.playout.specs.Machine.{Machine, opening_machine, held_or}
+use Rattle.playout.specs.History.{after_all}
+use Rattle.ring_core.specs.Ring.{Ring, RingRule, word_of}
+use Rattle.ring_core.specs.Core.{held_in}
+use Rattle.ring_core.specs.Steps.{caller_view, sourced, source_at, based, base_at, peeked, view_at}
+use Rattle.ring_core.proofs.Core.{held_is}
+use Rattle.ring_core.proofs.AllSteps.{all_steps, all_fresh}
 use Rattle.step_table.specs.Packed.{Kept, SeatState, pack_slot, pack_berth, words_of, Holds, HeldFit}
 use Rattle.step_table.specs.Kinds.{source, base, peek, source_place, base_place, MayLoad, MayExchange, IsHeldWord, AfterSource, AfterBase, AfterPeek, told}
 use Rattle.step_table.proofs.Spelling.{held_place, held_read, held_set, source_at_place, base_at_place}

@@ -1,9 +1,9 @@
 -- The places of words lie within the table.
 use Rattle.std.proofs.Common.{◌≡◌, ℕ, ◌+◌, ◌%◌, ◌^◌, ◌<◌, ◌≤◌, arith, mod-lt}
-use Rattle.play_machine.specs.declared.views.Shape.{Shape}
-use Rattle.play_machine.specs.Ring.{slot_count}
-use Rattle.play_machine.specs.Steps.{position_of}
-use Rattle.play_machine.proofs.Kept.{slots_positive}
+use Rattle.ring_core.specs.declared.views.Shape.{Shape}
+use Rattle.ring_core.specs.Ring.{slot_count}
+use Rattle.ring_core.specs.Steps.{position_of}
+use Rattle.ring_core.proofs.Kept.{slots_positive}
 use Rattle.step_table.specs.Packed.{SeatState}
 use Rattle.step_table.specs.Kinds.{StepKind, enlist, load, publish, tick, leave, source, base, peek, source_place, base_place, MaySwap, MayLoad, MayExchange}
 

@@ -5,15 +5,15 @@ use mathlib.Core.Option.{some}
 use lib.ListN.{get_elem?}
 use lib.Seq.{map-set}
 use Rattle.atomic_table.specs.Table.{gives, Allows}
-use Rattle.play_machine.specs.declared.views.Shape.{Shape}
-use Rattle.play_machine.specs.declared.views.Calling.{Calling}
-use Rattle.play_machine.specs.declared.views.View.{View}
-use Rattle.play_machine.specs.Ring.{Ring, slot_count, RingRule}
-use Rattle.play_machine.specs.declared.words.Berth.TheVariants.{Out, Home}
-use Rattle.play_machine.specs.declared.words.Cell.TheVariants.{AtHome}
-use Rattle.play_machine.specs.Steps.{caller_view, departed_view, leave_at}
-use Rattle.play_machine.proofs.Leave.{is_out}
-use Rattle.play_machine.proofs.AllSteps.{all_steps}
+use Rattle.ring_core.specs.declared.views.Shape.{Shape}
+use Rattle.ring_core.specs.declared.views.Calling.{Calling}
+use Rattle.ring_core.specs.declared.views.View.{View}
+use Rattle.ring_core.specs.Ring.{Ring, slot_count, RingRule}
+use Rattle.ring_core.specs.declared.words.Berth.TheVariants.{Out, Home}
+use Rattle.ring_core.specs.declared.words.Cell.TheVariants.{AtHome}
+use Rattle.ring_core.specs.Steps.{caller_view, departed_view, leave_at}
+use Rattle.ring_core.proofs.Leave.{is_out}
+use Rattle.ring_core.proofs.AllSteps.{all_steps}
 use Rattle.step_table.specs.Packed.{Kept, SeatState, pack_slot, pack_berth, home_of, Holds, HeldFit}
 use Rattle.step_table.specs.Kinds.{leave, MaySwap, told}
 use Rattle.step_table.proofs.Spelling.{set_middle}

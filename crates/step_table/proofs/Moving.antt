@@ -4,15 +4,15 @@ use mathlib.Core.Option.{some}
 use lib.ListN.{get_elem?}
 use Rattle.atomic_table.specs.Table.{Splits, Joins}
 use Rattle.atomic_table.proofs.Lists.{set_else}
-use Rattle.play_machine.specs.declared.views.Shape.{Shape}
-use Rattle.play_machine.specs.declared.views.Known.{Known}
-use Rattle.play_machine.specs.declared.views.Pooling.{Pooling}
-use Rattle.play_machine.specs.declared.views.Calling.{Calling}
-use Rattle.play_machine.specs.declared.views.Departing.{Departing}
-use Rattle.play_machine.specs.declared.views.View.{View}
-use Rattle.play_machine.specs.Ring.{Ring}
-use Rattle.play_machine.specs.Steps.{pool_view, caller_view, note_view, gone_view, spent_view, split_at, note_at, learn_at, gather_at}
-use Rattle.play_machine.proofs.AllSteps.{all_steps}
+use Rattle.ring_core.specs.declared.views.Shape.{Shape}
+use Rattle.ring_core.specs.declared.views.Known.{Known}
+use Rattle.ring_core.specs.declared.views.Pooling.{Pooling}
+use Rattle.ring_core.specs.declared.views.Calling.{Calling}
+use Rattle.ring_core.specs.declared.views.Departing.{Departing}
+use Rattle.ring_core.specs.declared.views.View.{View}
+use Rattle.ring_core.specs.Ring.{Ring}
+use Rattle.ring_core.specs.Steps.{pool_view, caller_view, note_view, gone_view, spent_view, split_at, note_at, learn_at, gather_at}
+use Rattle.ring_core.proofs.AllSteps.{all_steps}
 use Rattle.atomic_table.proofs.Lists.{set_again}
 use Rattle.step_table.specs.Packed.{SeatState, Holds}
 use Rattle.step_table.specs.Kinds.{split, note, learn, gather, MaySplit, MayJoin, left_of, right_of, both_of}

@@ -4,18 +4,18 @@ use Rattle.std.specs.Prelude.{slice_index}
 use mathlib.Core.Option.{some, some-ne-none, some-injective}
 use lib.ListN.{get_elem?}
 use Rattle.std.proofs.Math.Nat.{pow-le-pow_right}
-use Rattle.play_machine.specs.declared.views.Shape.{Shape}
-use Rattle.play_machine.specs.Machine.{opening_machine}
-use Rattle.play_machine.specs.History.{after_all}
-use Rattle.play_machine.specs.Ring.{Ring, RingRule, Place, in_slot, StandsIn}
-use Rattle.play_machine.specs.declared.words.SlotWord.{SlotWord}
-use Rattle.play_machine.specs.declared.words.Cell.TheVariants.{AtHome}
+use Rattle.ring_core.specs.declared.views.Shape.{Shape}
+use Rattle.playout.specs.Machine.{opening_machine}
+use Rattle.playout.specs.History.{after_all}
+use Rattle.ring_core.specs.Ring.{Ring, RingRule, Place, in_slot, StandsIn}
+use Rattle.ring_core.specs.declared.words.SlotWord.{SlotWord}
+use Rattle.ring_core.specs.declared.words.Cell.TheVariants.{AtHome}
 use Rattle.step_table.specs.Packed.{Kept, Fits, pack_slot, pack_berth, words_of}
 use Rattle.std.proofs.lemmas.List.{length-map}
 use Rattle.atomic_table.proofs.Lists.{set_again}
-use Rattle.play_machine.proofs.Kept.{at_exists}
+use Rattle.ring_core.proofs.Kept.{at_exists}
 use Rattle.step_table.specs.Kinds.{source_place, base_place}
-use Rattle.play_machine.specs.declared.words.Berth.{Berth}
+use Rattle.ring_core.specs.declared.words.Berth.{Berth}
 
 module _ {A : Type 0} (f : A → ℕ) where
   pub index_front : (xs : List A) (ys : List ℕ) (i : ℕ) (a : A) → get_elem? xs i ≡ some a → slice_index (map f xs ++ ys) i ≡ f a

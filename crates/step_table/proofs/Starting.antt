@@ -5,15 +5,15 @@ use Rattle.std.proofs.lemmas.List.{length-map}
 use Rattle.std.proofs.Math.Nat.{pow-le-pow_right}
 use mathlib.Core.Option as maybe
 use lib.ListN.{get_elem?}
-use Rattle.play_machine.specs.declared.views.Shape.{Shape}
-use Rattle.play_machine.specs.declared.words.Berth.TheVariants.{Fresh}
-use Rattle.play_machine.specs.declared.words.Cell.TheVariants.{AtHome}
-use Rattle.play_machine.specs.Machine.{start}
-use Rattle.play_machine.specs.Ring.{Ring, slot_count}
-use Rattle.play_machine.specs.Steps.{free_word}
-use Rattle.play_machine.specs.Opening.{opening_ring, slots_from, berths_from}
+use Rattle.ring_core.specs.declared.views.Shape.{Shape}
+use Rattle.ring_core.specs.declared.words.Berth.TheVariants.{Fresh}
+use Rattle.ring_core.specs.declared.words.Cell.TheVariants.{AtHome}
+use Rattle.playout.specs.Machine.{start}
+use Rattle.ring_core.specs.Ring.{Ring, slot_count}
+use Rattle.ring_core.specs.Steps.{free_word}
+use Rattle.ring_core.specs.Opening.{opening_ring, slots_from, berths_from}
 use Rattle.std.proofs.Math.Pow.{pow-lt}
-use Rattle.play_machine.proofs.Opening.{length-slots, length-berths}
+use Rattle.ring_core.proofs.Opening.{length-slots, length-berths}
 use Rattle.step_table.specs.Packed.{Kept, words_of, home_of, pack_slot, pack_berth, IsOpening}
 use Rattle.step_table.proofs.Spelling.{index_front, index_middle}
 

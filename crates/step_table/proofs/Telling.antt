@@ -2,13 +2,13 @@
 use Rattle.std.proofs.Common.{◌≡◌, ◌⊎◌, inl, inr, ℕ, ◌%◌, ◌<◌, ◌≤◌, List, Some, true, arith}
 use mathlib.Core.Option.{some}
 use lib.ListN.{get_elem?}
-use Rattle.play_machine.specs.declared.views.Shape.{Shape}
-use Rattle.play_machine.specs.declared.views.Calling.{Calling}
-use Rattle.play_machine.specs.declared.words.SlotWord.{SlotWord}
-use Rattle.play_machine.specs.declared.words.Cell.TheVariants.{AtHome}
-use Rattle.play_machine.specs.Ring.{Ring, RingRule, slot_count}
-use Rattle.play_machine.specs.Steps.{caller_view}
-use Rattle.play_machine.proofs.AllSteps.{all_fresh, all_near}
+use Rattle.ring_core.specs.declared.views.Shape.{Shape}
+use Rattle.ring_core.specs.declared.views.Calling.{Calling}
+use Rattle.ring_core.specs.declared.words.SlotWord.{SlotWord}
+use Rattle.ring_core.specs.declared.words.Cell.TheVariants.{AtHome}
+use Rattle.ring_core.specs.Ring.{Ring, RingRule, slot_count}
+use Rattle.ring_core.specs.Steps.{caller_view}
+use Rattle.ring_core.proofs.AllSteps.{all_fresh, all_near}
 use Rattle.step_table.specs.Kinds.{WordTells}
 
 -- what stands there, or has gone on, is not below, and is filled where it has the number

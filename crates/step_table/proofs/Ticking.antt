@@ -1,5 +1,5 @@
 -- A tick is a step that the table's rule allows.
-use Rattle.std.proofs.Common.{◌≡◌, ◌≢◌, ℕ, ◌+◌, ◌%◌, ◌^◌, ◌<◌, List, [], ◌∷◌, ◌++◌, map, set, length, refl, sym, ap, ◌∙◌, subst, arith, mod-lt}
+use Rattle.std.proofs.Common.{◌≡◌, ◌≢◌, ℕ, ◌+◌, ◌%◌, ◌^◌, ◌<◌, List, [], ◌∷◌, ◌++◌, map, set, length, Some, None, true, refl, sym, ap, ◌∙◌, subst, arith, mod-lt}
 use Rattle.std.specs.Prelude.{slice_index}
 use mathlib.Core.Option.{some}
 use mathlib.Core.Option as maybe
@@ -7,18 +7,21 @@ use lib.ListN.{get_elem?}
 use lib.Seq.{map-set}
 use Rattle.atomic_table.specs.Table.{State, Act, takes, gives, chain, Allows, Valid, stepped, carried_after}
 use Rattle.atomic_table.proofs.Lists.{set_else, at_map}
-use Rattle.play_machine.specs.declared.views.Shape.{Shape}
-use Rattle.play_machine.specs.declared.views.Calling.{Calling}
-use Rattle.play_machine.specs.declared.views.Role.{Role}
-use Rattle.play_machine.specs.declared.views.Role.TheVariants.{Caller}
-use Rattle.play_machine.specs.declared.views.View.{View}
-use Rattle.play_machine.specs.Ring.{Ring, slot_count, RingRule}
-use Rattle.play_machine.specs.declared.words.SlotWord.{SlotWord}
-use Rattle.play_machine.specs.declared.words.Cell.TheVariants.{AtHome, OutWith}
-use Rattle.play_machine.specs.Steps.{caller_view, position_of, ticked, free_word, tick_at}
-use Rattle.play_machine.proofs.Kept.{at_exists, slots_positive}
-use Rattle.play_machine.proofs.Cells as cells
-use Rattle.play_machine.proofs.AllSteps.{all_steps, all_fresh}
+use Rattle.ring_core.specs.declared.views.Shape.{Shape}
+use Rattle.ring_core.specs.declared.views.Calling.{Calling}
+use Rattle.ring_core.specs.declared.views.Role.{Role}
+use Rattle.ring_core.specs.declared.views.Role.TheVariants.{Caller}
+use Rattle.ring_core.specs.declared.views.View.{View}
+use Rattle.ring_core.specs.Ring.{Ring, slot_count, RingRule}
+use Rattle.ring_core.specs.declared.words.SlotWord.{SlotWord}
+use Rattle.ring_core.specs.declared.words.Cell.{Cell}
+use Rattle.ring_core.specs.declared.words.Cell.TheVariants.{AtHome, OutWith}
+use Rattle.ring_core.specs.Steps.{caller_view, position_of, ticked, free_word, tick_at}
+use Rattle.ring_core.proofs.Kept.{at_exists, slots_positive}
+use Rattle.ring_core.proofs.Cells as cells
+use Rattle.ring_core.proofs.Seats.{at_one}
+use Rattle.ring_core.proofs.Tick.{number}
+use Rattle.ring_core.proofs.AllSteps.{all_steps, all_fresh}
 use Rattle.step_table.specs.Packed.{Kept, SeatState, pack_slot, pack_berth, words_of, home_of, Holds, HeldFit}
 use Rattle.step_table.specs.Kinds.{tick, MaySwap, AfterTick, told}
 use Rattle.step_table.proofs.Spelling.{index_front, set_front, slot_value, slot_small}
@@ -36,6 +39,13 @@ Goes k t id me word new then = (w : View) × (a : Act Kept) × Valid t.homes me.
 pub caller-injective : (c d : Calling) → Path Role (Caller c) (Caller d) → Path Calling c d
 caller-injective c d e = cc
 
+home_is : (x y : Kept) → Path Cell (AtHome x) (AtHome y) → x ≡ y
+home_is x y e = cc
+
+-- the cell of a filled word has a frame
+frame_in : {k : Shape} (s : Ring) (rule : RingRule k s) (i : ℕ) (w : SlotWord) (y : Kept) → get_elem? s.slots i ≡ some w → get_elem? s.cells w.cell ≡ some (AtHome y) → w.filled ≡ true → (f : List ℕ) × (y ≡ Some f)
+frame_in s rule i w y there holds full = let f = (rule.slot i w there).filled full in (f.0, home_is y (Some f.0) (at_one s.cells w.cell (AtHome y) (AtHome (Some f.0)) holds f.2))
+
 abbrev pub at_tick : Shape → Calling → Kept → SeatState
 at_tick k c z = (caller_view k c, (c.spare, z) ∷ [])
 
@@ -50,7 +60,7 @@ goes k s rule fits id c z at player below =
     let y : Kept = value.0 in
     let word : SlotWord = free_word (p + R) c.spare in
     let u : View = caller_view k (ticked c w y) in
-    let tells : AfterTick k c (slice_index (words_of s) i) (u, (w.cell, y) ∷ []) = (w, y, index_front pack_slot s.slots (map pack_berth s.berths ++ s.source ∷ s.base ∷ []) i w there.1, slot_small k s rule i w there.1, refl, λ f has. (all_fresh k s rule id c at).played w y f player below there.1 value.1 has) in
+    let tells : AfterTick k c (slice_index (words_of s) i) (u, (w.cell, y) ∷ []) = (w, y, index_front pack_slot s.slots (map pack_berth s.berths ++ s.source ∷ s.base ∷ []) i w there.1, slot_small k s rule i w there.1, refl, λ f has. (all_fresh k s rule id c at).played w y f player below there.1 value.1 has, number k s rule id c w y None at player below there.1 value.1, λ full. frame_in s rule i w y there.1 value.1 full) in
     let apart : c.spare ≢ w.cell = cells.apart s rule.place i id w word (caller_view k c) u c (ticked c w y) z there.1 at refl refl refl refl rule.alone rule.named in (
       u,
       chain gives (takes w.cell y),

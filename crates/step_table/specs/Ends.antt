@@ -2,10 +2,10 @@
 use Rattle.std.specs.Prelude.{◌≡◌, ℕ, List, Option}
 use mathlib.Core.Option.{some}
 use lib.ListN.{get_elem?}
-use Rattle.play_machine.specs.declared.views.Shape.{Shape}
-use Rattle.play_machine.specs.declared.views.View.{View}
-use Rattle.play_machine.specs.declared.words.Cell.TheVariants.{AtHome}
-use Rattle.play_machine.specs.Ring.{Ring, RingRule}
+use Rattle.ring_core.specs.declared.views.Shape.{Shape}
+use Rattle.ring_core.specs.declared.views.View.{View}
+use Rattle.ring_core.specs.declared.words.Cell.TheVariants.{AtHome}
+use Rattle.ring_core.specs.Ring.{Ring, RingRule}
 use Rattle.step_table.specs.Packed.{Kept, words_of}
 
 -- the view of the seat that closed it, the words, and what the cells hold

@@ -1,22 +1,22 @@
 -- The kinds of step on the table: where each may be made, and what it tells its caller.
 use Rattle.std.specs.Prelude.{◌≡◌, ◌≢◌, ◌⊎◌, ℕ, ◌+◌, ◌%◌, ◌<◌, ◌≤◌, ◌^◌, List, [], ◌∷◌, slice_get, Option, Some, None, Result, Ok, Err, true}
 use Rattle.frame_codec.specs.declared.item.Item.TheVariants.{Frame}
-use Rattle.play_machine.specs.declared.call.Call.{Call}
-use Rattle.play_machine.specs.declared.views.Shape.{Shape}
-use Rattle.play_machine.specs.declared.views.Known.{Known}
-use Rattle.play_machine.specs.declared.views.Flight.{Flight}
-use Rattle.play_machine.specs.declared.views.Pooling.{Pooling}
-use Rattle.play_machine.specs.declared.views.Calling.{Calling}
-use Rattle.play_machine.specs.declared.views.Departing.{Departing}
-use Rattle.play_machine.specs.declared.views.Role.{Role}
-use Rattle.play_machine.specs.declared.views.Role.TheVariants.{Pool, Caller, Departed, Note, Spent}
-use Rattle.play_machine.specs.declared.views.View.{View}
-use Rattle.play_machine.specs.declared.words.SlotWord.{SlotWord}
-use Rattle.play_machine.specs.declared.words.Berth.TheVariants.{Fresh, Out, Home}
-use Rattle.play_machine.specs.Machine.{start, held_or}
-use Rattle.play_machine.specs.Ring.{Has, slot_count, word_of}
-use Rattle.play_machine.specs.Steps.{caller_view, position_of, ticked, taken, free_word, full_word, loaded, published, pool_view, without, only, newcomer, told_by, note_view, departed_view, gone_view, with_list, sourced, based, peeked}
-use Rattle.play_machine.specs.Core.{held_in}
+use Rattle.playout.specs.declared.call.Call.{Call}
+use Rattle.ring_core.specs.declared.views.Shape.{Shape}
+use Rattle.ring_core.specs.declared.views.Known.{Known}
+use Rattle.ring_core.specs.declared.views.Flight.{Flight}
+use Rattle.ring_core.specs.declared.views.Pooling.{Pooling}
+use Rattle.ring_core.specs.declared.views.Calling.{Calling}
+use Rattle.ring_core.specs.declared.views.Departing.{Departing}
+use Rattle.ring_core.specs.declared.views.Role.{Role}
+use Rattle.ring_core.specs.declared.views.Role.TheVariants.{Pool, Caller, Departed, Note, Spent}
+use Rattle.ring_core.specs.declared.views.View.{View}
+use Rattle.ring_core.specs.declared.words.SlotWord.{SlotWord}
+use Rattle.ring_core.specs.declared.words.Berth.TheVariants.{Fresh, Out, Home}
+use Rattle.playout.specs.Machine.{start, held_or}
+use Rattle.ring_core.specs.Ring.{Has, slot_count, word_of}
+use Rattle.ring_core.specs.Steps.{caller_view, position_of, ticked, taken, free_word, full_word, loaded, published, pool_view, without, only, newcomer, told_by, note_view, departed_view, gone_view, with_list, sourced, based, peeked}
+use Rattle.ring_core.specs.Core.{held_in}
 use Rattle.step_table.specs.Packed.{Kept, SeatState, Fits, pack_slot, pack_berth}
 
 pub data StepKind : Type 0 where
@@ -78,10 +78,10 @@ MayExchange (base x) k me word old new =
     × (me ≡ (caller_view k c, held)) × (c.who < k.filers) × (c.flight ≡ None) × (x < 2 ^ 32) × (word ≡ base_place k) × (old ≡ 0) × (new ≡ word_of (Some x))
 MayExchange _ k me word old new = ⊥
 
--- a tick by this caller found the number: it spells a slot word, and the seat has that word's cell. What the caller knew to be accepted there is played
+-- a tick by this caller found the number: it spells a slot word of the caller's position, and the seat has that word's cell. What the caller knew to be accepted there is played, and a filled word has a frame in its cell
 abbrev pub AfterTick : Shape → Calling → ℕ → SeatState → Type 0
 AfterTick k c found now = (w : SlotWord) × (y : Kept) × (found ≡ pack_slot w) × Fits w × (now ≡ (caller_view k (ticked c w y), (w.cell, y) ∷ []))
-    × ((f : List ℕ) → Has c.known.pairs (position_of c) f → taken w.filled y ≡ Frame f)
+    × ((f : List ℕ) → Has c.known.pairs (position_of c) f → taken w.filled y ≡ Frame f) × (w.number ≡ position_of c) × (w.filled ≡ true → (f : List ℕ) × (y ≡ Some f))
 
 -- what the word of this number's slot has to do with what the caller knew
 pub record WordTells (k : Shape) (c : Calling) (n : ℕ) (w : SlotWord) : Type 0 where
@@ -99,7 +99,7 @@ abbrev pub AfterPublish : Shape → Calling → Flight → List (ℕ × Kept) �
 AfterPublish k c f held found now =
     ((found ≡ pack_slot (free_word f.number f.cell)) × ((y : Kept) × (now ≡ (caller_view k (published c f.number f.frame f.cell), (f.cell, y) ∷ []))))
     ⊎ ((found ≢ pack_slot (free_word f.number f.cell))
-    × ((w : SlotWord) × (found ≡ pack_slot w) × Fits w × (f.number ≤ w.number) × (w.number ≡ f.number → w.filled ≡ true) × (now ≡ (caller_view k (loaded c w f.number f.frame), held))))
+    × ((w : SlotWord) × (found ≡ pack_slot w) × Fits w × (f.number ≤ w.number) × (w.number ≡ f.number → w.filled ≡ true) × (now ≡ (caller_view k (loaded c w f.number f.frame), held)) × WordTells k c f.number w))
 
 -- a word with nothing held, or with a value of 32 bits
 abbrev pub IsHeldWord : ℕ → Type 0

@@ -3,16 +3,16 @@ use Rattle.std.specs.Prelude.{◌≡◌, ℕ, ◌+◌, ◌*◌, ◌<◌, ◌≤�
 use mathlib.Core.Option as maybe
 use Rattle.atomic_table.specs.Table.{State, Me}
 use Rattle.atomic_table.specs.Seated.{TableId}
-use Rattle.play_machine.specs.declared.views.Shape.{Shape}
-use Rattle.play_machine.specs.declared.views.View.{View}
-use Rattle.play_machine.specs.declared.words.SlotWord.{SlotWord}
-use Rattle.play_machine.specs.declared.words.Berth.{Berth}
-use Rattle.play_machine.specs.declared.words.Berth.TheVariants.{Fresh, Out, Home}
-use Rattle.play_machine.specs.declared.words.Cell.{Cell}
-use Rattle.play_machine.specs.declared.words.Cell.TheVariants.{AtHome, OutWith}
-use Rattle.play_machine.specs.Ring.{Ring, RingRule, slot_count}
-use Rattle.play_machine.specs.Steps.{pool_view}
-use Rattle.play_machine.specs.Opening.{all_rights, opening_ring}
+use Rattle.ring_core.specs.declared.views.Shape.{Shape}
+use Rattle.ring_core.specs.declared.views.View.{View}
+use Rattle.ring_core.specs.declared.words.SlotWord.{SlotWord}
+use Rattle.ring_core.specs.declared.words.Berth.{Berth}
+use Rattle.ring_core.specs.declared.words.Berth.TheVariants.{Fresh, Out, Home}
+use Rattle.ring_core.specs.declared.words.Cell.{Cell}
+use Rattle.ring_core.specs.declared.words.Cell.TheVariants.{AtHome, OutWith}
+use Rattle.ring_core.specs.Ring.{Ring, RingRule, slot_count}
+use Rattle.ring_core.specs.Steps.{pool_view}
+use Rattle.ring_core.specs.Opening.{all_rights, opening_ring}
 
 -- what a cell holds
 abbrev pub Kept : Type 0

@@ -10,7 +10,7 @@ use crate::rule::RingLaw;
 use crate::table::StepSeat;
 use atomic_table::Table;
 use frame_codec::Frame33;
-use play_machine::{Shape, View};
+use ring_core::{Shape, View};
 use std::alloc::Global;
 use std::marker::Model;
 use std::snapshot::Snapshot;

@@ -1,7 +1,7 @@
 // The kinds of step, as types.
 use atomic_table::{Join, Play, Split};
 use frame_codec::Frame33;
-use play_machine::View;
+use ring_core::View;
 use std::marker::{Brand, PhantomData};
 
 /// Which kind of step a call makes, with the step's arguments: a number, a frame, a caller or a value.
@@ -39,7 +39,7 @@ impl<M: Kind> Split<View> for Told<M> {
 
 impl<M: Kind> Join<View> for Told<M> {
     ghost use Rattle.step_table.specs.Kinds.{both_of};
-    ghost use Rattle.play_machine.specs.Steps.{spent_view};
+    ghost use Rattle.ring_core.specs.Steps.{spent_view};
 
     ghost both = { both_of M.kind };
 

@@ -1,9 +1,9 @@
 // The shape of a ring, from its words at the start.
 ghost use Rattle.std.specs.Prelude.{◌≡◌};
-ghost use Rattle.play_machine.specs.declared.views.Shape.{Shape};
+ghost use Rattle.ring_core.specs.declared.views.Shape.{Shape};
 ghost use Rattle.step_table.specs.Packed.{IsOpening};
 
-use play_machine::Shape;
+use ring_core::Shape;
 
 // A slot's word is at least this, and a berth's is less.
 const START: u64 = 1 << 32;

@@ -1,7 +1,7 @@
 // The ring's rule on a table.
 use atomic_table::TableRule;
 use frame_codec::Frame33;
-use play_machine::{Shape, View};
+use ring_core::{Shape, View};
 
 /// The table spells a ring that meets the rule of the ring as plain data.
 pub struct RingLaw;

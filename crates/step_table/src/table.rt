@@ -1,6 +1,6 @@
 // The words and cells of a ring, shared by the threads that step on them.
 ghost use Rattle.std.specs.Prelude.{◌≤◌, IfOk, ◌≡◌, ◌≢◌, ◌+◌, ◌^◌, [], ◌∷◌, length, MatchResult};
-ghost use Rattle.play_machine.specs.declared.views.Shape.{Shape};
+ghost use Rattle.ring_core.specs.declared.views.Shape.{Shape};
 ghost use Rattle.step_table.specs.Packed.{IsOpening, first_view, Kept};
 ghost use Rattle.step_table.specs.Kinds.{MaySwap, MayLoad, MayExchange, MaySplit, MayJoin, told, left_of, right_of, both_of, word_read};
 ghost use Rattle.step_table.specs.Ends.{Ends};
@@ -13,7 +13,7 @@ use crate::steps::Steps;
 use atomic_table::{Seat, Table};
 use frame_codec::Frame33;
 use gate_base::OutOfMemory;
-use play_machine::{Shape, View};
+use ring_core::{Shape, View};
 use std::alloc::Global;
 use std::marker::Model;
 use std::sync::ledger::Ledger;

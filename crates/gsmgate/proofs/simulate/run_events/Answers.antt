@@ -1,6 +1,6 @@
 use Rattle.std.proofs.Common.{◌≡◌, ◌≤◌, ◌+◌, ℕ, ◌∷◌, [], ◌++◌, sym, ap, subst, ◌∙◌, inl, inr, arith}
 use Rattle.gate_base.specs.Faults.{Rose}
-use Rattle.play_machine.specs.Line.{Line}
+use Rattle.playout.specs.Line.{Line}
 use Rattle.recorder.specs.Reader.{Progress}
 use Rattle.gsmgate.specs.Calls.{IsCallable}
 use Rattle.gsmgate.specs.Applies.{Applies}

@@ -17,4 +17,5 @@ returns g c =
       came = went_on l.filers l.options c.args.caller.now.number (link c.args.link.now) (link ran.new.link) (sink c.args.journal.now) (sink c.write_filer_head.new.sink) (sink ran.new.journal) c.write_filer_head.result c.head.result c.filer-filer.result ran.new.filer ran.result.0.list ran.result.1 c.tally-caller.result
           c.write_filer_head.ensures.given c.write_filer_head.ensures.cause (search rules) c.head.ensures c.filer-filer.ensures ran.ensures.ran (search rules)
           ran.ensures.ended ran.ensures.link_later ran.ensures.link_fault ran.ensures.journal_later ran.ensures.journal_fault;
+      journal = g.met.J.Sink.kin_after c.args.journal.now c.write_filer_head.new.sink ran.new.journal c.write_filer_head.ensures.kin ran.ensures.kin;
     }

@@ -28,3 +28,6 @@ returns-clause-ran g c =
             reply_fault = e.reply_fault;
           });
     }
+
+pub returns-clause-journal_kin : goal.returns-clause-journal_kin
+returns-clause-journal_kin g c = g.met.J.Sink.kin_after c.args.journal.now c.write_play_head.new.sink c.play_over-pass.new.journal c.write_play_head.ensures.kin c.play_over-pass.ensures.journal_kin

@@ -1,6 +1,6 @@
 use Rattle.std.proofs.Common.{◌≡◌, ℕ, List, length, Some, arith}
 use Rattle.recorder.specs.Heads.{head_fault}
-use Rattle.recorder.proofs.Taken.{told}
+use Rattle.recorder.proofs.Taken.{told, fewer_of, fewer_taken}
 use Rattle.recorder.proofs.read.read_head.Goals as goal
 
 pub returns-in-Err-head_of-clause-fault : goal.returns-in-Err-head_of-clause-fault
@@ -9,3 +9,11 @@ returns-in-Err-head_of-clause-fault g c =
     told (g.I.Source.left c.args.source.now) (g.I.Source.left c.fill.new.source) c.in-Ok.count 12 c.fill.new.into
     (λ (l : List ℕ). head_fault c.args.magic.now l ≡ Some c.in-Err-head_of.fault)
     (omega (arith, len, c.in-Ok.ensures.within.0)) len c.in-Ok.ensures.filled.0 (λ lt. c.in-Ok.ensures.filled.1 (omega (arith, len))) c.in-Err-head_of.ensures.fault
+
+pub returns-in-Err-clause-part : goal.returns-in-Err-clause-part
+returns-in-Err-clause-part g c = fewer_of 12 13 (g.I.Source.left c.args.source.now) (g.I.Source.left c.fill.new.source) (omega arith) c.in-Err.ensures.part
+
+pub returns-in-Err-head_of-clause-part : goal.returns-in-Err-head_of-clause-part
+returns-in-Err-head_of-clause-part g c =
+    let len : length c.fill.new.into ≡ 12 = c.fill.auto.into in
+    fewer_taken c.in-Ok.count 12 13 (g.I.Source.left c.args.source.now) (g.I.Source.left c.fill.new.source) c.fill.new.into (omega (arith, len, c.in-Ok.ensures.within.0)) len (omega arith) c.in-Ok.ensures.filled.0

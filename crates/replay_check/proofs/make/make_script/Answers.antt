@@ -2,8 +2,8 @@ use Rattle.std.proofs.Common.{◌≡◌, ℕ, List, [], ◌∷◌, ◌++◌, sym
 use Rattle.std.proofs.KnownBytes.{Appends-trans}
 use Rattle.gate_io.specs.Flow.{AppendsPart}
 use Rattle.gate_io.specs.FlowLaws.{AppendsPart-after}
-use Rattle.play_machine.specs.declared.call.Call.TheVariants.{FileCall, TickCall}
-use Rattle.play_machine.specs.History.{entry}
+use Rattle.playout.specs.declared.call.Call.TheVariants.{FileCall, TickCall}
+use Rattle.playout.specs.History.{entry}
 use Rattle.recorder.specs.declared.events.ScriptEvent.TheVariants.{File}
 use Rattle.recorder.specs.Files.{end_mark}
 use Rattle.recorder.specs.Heads.{head_text, script_magic}

@@ -1,5 +1,5 @@
 use Rattle.std.proofs.Common.{◌≡◌, ◌≤◌, ◌*◌, List}
-use Rattle.play_machine.specs.History.{Entry}
+use Rattle.playout.specs.History.{Entry}
 use Rattle.replay_check.specs.Generator.{seed_key}
 use Rattle.replay_check.proofs.MadeSofar.{Sofar}
 use Rattle.replay_check.proofs.make.make_script.Given as goal

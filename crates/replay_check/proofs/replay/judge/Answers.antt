@@ -1,5 +1,5 @@
 use Rattle.std.proofs.Common.{◌≡◌, ℕ, ◌-◌, ◌<◌, ◌^◌, [], length, ap, ◌∙◌, sym, subst, arith, length-set, below_more}
-use Rattle.play_machine.specs.Line.{Line}
+use Rattle.playout.specs.Line.{Line}
 use Rattle.replay_check.specs.Rule.{AreJournals, IsVerdict}
 use Rattle.replay_check.specs.declared.verdict.Verdict.TheVariants.{Legal}
 use Rattle.replay_check.specs.Lists.{list_of, left_of}

@@ -1,5 +1,5 @@
 use Rattle.std.proofs.Common.{◌≡◌, ◌++◌, ◌-◌, ◌≤◌, map}
-use Rattle.play_machine.specs.Opening.{berths_from}
+use Rattle.ring_core.specs.Opening.{berths_from}
 use Rattle.step_table.specs.Packed.{pack_berth}
 use Rattle.slot_ring.proofs.opening.push_berths.Given as goal
 

@@ -1,5 +1,5 @@
 use Rattle.std.proofs.Common.{◌≤◌, ◌<◌, ℕ, sym, subst}
-use Rattle.play_machine.proofs.Kept.{slots_positive}
+use Rattle.ring_core.proofs.Kept.{slots_positive}
 use Rattle.step_table.proofs.Starting.{few_slots, shifted}
 use Rattle.slot_ring.proofs.ring.slots_in.Goals as goal
 

@@ -1,5 +1,5 @@
 use Rattle.std.proofs.Common.{◌∙◌, ap, subst}
-use Rattle.play_machine.specs.History.{Chained}
+use Rattle.playout.specs.History.{Chained}
 use Rattle.filer.specs.Takes.{Step, replies_of}
 use Rattle.filer.proofs.Cases.{admitted_is}
 use Rattle.filer.proofs.filer.Filer.take_rtp.Goals as goal

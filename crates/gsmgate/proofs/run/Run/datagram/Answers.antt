@@ -3,8 +3,8 @@ use Rattle.std.proofs.lemmas.List.{length-set, with_items_is}
 use Rattle.std.specs.Io.KnownBytes.{Appends}
 use Rattle.std.specs.Vec.{with_items}
 use Rattle.gate_io.specs.Flow.{AppendsPart}
-use Rattle.play_machine.specs.History.{Chained}
-use Rattle.play_machine.specs.Line.{FilerSteps, Line}
+use Rattle.playout.specs.History.{Chained}
+use Rattle.playout.specs.Line.{FilerSteps, Line}
 use Rattle.filer.specs.Takes.{Known, calls_of}
 use Rattle.gsmgate.specs.Calls.{made_by}
 use Rattle.gsmgate.specs.declared.run.Run.{Run}

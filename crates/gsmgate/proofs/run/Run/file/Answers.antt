@@ -1,8 +1,8 @@
 use Rattle.std.proofs.Common.{List, ℕ, [], ◌∷◌, refl, sym, subst, append-nil}
 use Rattle.std.specs.Io.KnownBytes.{Appends}
 use Rattle.gate_io.specs.Flow.{AppendsPart}
-use Rattle.play_machine.specs.declared.call.Call.TheVariants.{FileCall}
-use Rattle.play_machine.specs.History.{entry}
+use Rattle.playout.specs.declared.call.Call.TheVariants.{FileCall}
+use Rattle.playout.specs.History.{entry}
 use Rattle.gsmgate.specs.Calls.{bare}
 use Rattle.gsmgate.specs.Notes.{reply_line}
 use Rattle.gsmgate.specs.declared.run.Run.{Run}

@@ -1,6 +1,6 @@
 use Rattle.std.proofs.Common.{[], ◌∷◌, Some, true, refl}
-use Rattle.play_machine.specs.declared.call.Call.TheVariants.{PeekCall, TickCall}
-use Rattle.play_machine.specs.History.{entry}
+use Rattle.playout.specs.declared.call.Call.TheVariants.{PeekCall, TickCall}
+use Rattle.playout.specs.History.{entry}
 use Rattle.gsmgate.specs.Calls.{bare}
 use Rattle.gsmgate.specs.declared.run.Run.{Run}
 use Rattle.gsmgate.proofs.Events.{first_applies}

@@ -1,7 +1,7 @@
 use Rattle.std.proofs.Common.{[], ◌∷◌, None, refl}
 use Rattle.frame_codec.specs.declared.item.Item.TheVariants.{Idle}
-use Rattle.play_machine.specs.declared.call.Call.TheVariants.{PeekCall}
-use Rattle.play_machine.specs.History.{entry}
+use Rattle.playout.specs.declared.call.Call.TheVariants.{PeekCall}
+use Rattle.playout.specs.History.{entry}
 use Rattle.gsmgate.specs.Calls.{bare}
 use Rattle.gsmgate.specs.declared.run.Run.{Run}
 use Rattle.gsmgate.proofs.Events.{idle_applies}

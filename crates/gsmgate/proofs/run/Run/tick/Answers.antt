@@ -1,6 +1,6 @@
 use Rattle.std.proofs.Common.{[], ◌∷◌, true, refl}
-use Rattle.play_machine.specs.declared.call.Call.TheVariants.{TickCall}
-use Rattle.play_machine.specs.History.{entry}
+use Rattle.playout.specs.declared.call.Call.TheVariants.{TickCall}
+use Rattle.playout.specs.History.{entry}
 use Rattle.gsmgate.specs.Calls.{bare}
 use Rattle.gsmgate.specs.declared.run.Run.{Run}
 use Rattle.gsmgate.proofs.Events.{tick_applies}

@@ -1,5 +1,5 @@
 use Rattle.std.proofs.Common.{◌≡◌, ◌∙◌, ap, sym, arith, length, List, drop}
-use Rattle.play_machine.specs.declared.call.Call.{Call}
+use Rattle.playout.specs.declared.call.Call.{Call}
 use Rattle.replay_check.specs.Journals.{journal_lists}
 use Rattle.replay_check.specs.Lists.{Recording, first_of}
 use Rattle.replay_check.proofs.Recordings.{list-player}

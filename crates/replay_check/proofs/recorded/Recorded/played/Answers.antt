@@ -1,5 +1,5 @@
 use Rattle.std.proofs.Common.{◌∙◌, ap, arith, Some}
-use Rattle.play_machine.specs.declared.call.Call.{Call}
+use Rattle.playout.specs.declared.call.Call.{Call}
 use Rattle.replay_check.proofs.Recordings.{play-found}
 use Rattle.replay_check.proofs.recorded.Recorded.played.Goals as goal
 

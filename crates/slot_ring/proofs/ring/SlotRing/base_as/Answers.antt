@@ -1,9 +1,9 @@
 use Rattle.std.proofs.Common.{◌≡◌, ℕ, Some, subst}
-use Rattle.play_machine.specs.declared.call.Call.TheVariants.{BaseCall}
-use Rattle.play_machine.specs.Machine.{held_or}
-use Rattle.play_machine.specs.Core.{held_in}
+use Rattle.playout.specs.declared.call.Call.TheVariants.{BaseCall}
+use Rattle.playout.specs.Machine.{held_or}
+use Rattle.ring_core.specs.Core.{held_in}
 use Rattle.step_table.specs.Kinds.{StepKind, told, IsHeldWord, word_read}
-use Rattle.slot_ring.specs.Seen.{PassView}
+use Rattle.slot_ring.specs.Seen.{PassView, HeldSays}
 use Rattle.slot_ring.proofs.Grows.{grown, knows}
 use Rattle.slot_ring.proofs.Callers.{after_base}
 use Rattle.slot_ring.proofs.ring.SlotRing.base_as.Goals as goal
@@ -38,3 +38,11 @@ returns-clause-fresh g c =
     let reads = subst (λ (n : ℕ). IsHeldWord n → c.value_or.result ≡ held_or (held_in n) c.args.ts) c.read.ensures c.value_or.ensures in
     let r = after_base me now c.pass.inside.who c.pass.inside.spare word c.args.ts c.value_or.result c.pass.invariant tells reads in
     subst (λ (p : PassView). (x : ℕ) → p.known.base ≡ Some x → c.value_or.result ≡ x) c.pass.view_is r.1
+
+pub returns-clause-word : goal.returns-clause-word
+returns-clause-word g c =
+    let me = c.pass.inside.seat.me in let now = c.compare_exchange-answer.new.seat.me in let word = word_read c.compare_exchange-answer.result in
+    let tells = subst (λ (m : StepKind). told m me word now) c.requires.kind c.compare_exchange-answer.ensures.told in
+    let reads = subst (λ (n : ℕ). IsHeldWord n → c.value_or.result ≡ held_or (held_in n) c.args.ts) c.read.ensures c.value_or.ensures in
+    let r = after_base me now c.pass.inside.who c.pass.inside.spare word c.args.ts c.value_or.result c.pass.invariant tells reads in
+    subst (λ (p : PassView). HeldSays p.known.base c.args.ts c.value_or.result) c.pass.view_is r.2

@@ -1,7 +1,7 @@
 use Rattle.std.proofs.Common.{◌≡◌, ℕ, ◌^◌, sym, ap, ◌∙◌, subst}
-use Rattle.play_machine.specs.declared.views.Shape.{Shape}
-use Rattle.play_machine.specs.Steps.{pool_view}
-use Rattle.play_machine.specs.Ring.{slot_count}
+use Rattle.ring_core.specs.declared.views.Shape.{Shape}
+use Rattle.ring_core.specs.Steps.{pool_view}
+use Rattle.ring_core.specs.Ring.{slot_count}
 use Rattle.step_table.specs.Packed.{Where, SeatState}
 use Rattle.step_table.specs.Ends.{ClosedView, Ends}
 use Rattle.slot_ring.specs.Seen.{GatherView, lists_in}

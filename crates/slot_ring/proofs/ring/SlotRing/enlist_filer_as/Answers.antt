@@ -1,5 +1,5 @@
 use Rattle.std.proofs.Common.{◌≡◌, ◌<◌, ℕ, sym, ap, ◌∙◌, subst}
-use Rattle.play_machine.specs.declared.views.Shape.{Shape}
+use Rattle.ring_core.specs.declared.views.Shape.{Shape}
 use Rattle.step_table.specs.Packed.{Where}
 use Rattle.slot_ring.specs.Seen.{BlankView}
 use Rattle.slot_ring.proofs.Pools.{enlisted, filer_enlisted}

@@ -1,6 +1,6 @@
 use Rattle.std.proofs.Common.{◌≡◌, ◌≢◌, ◌∙◌, ◌≤◌, sym, ap, ℕ, subst, Ok, Err, MatchResult, Result}
-use Rattle.play_machine.specs.declared.words.SlotWord.{SlotWord}
-use Rattle.play_machine.specs.declared.reply.FileReply.TheVariants.{Accepted}
+use Rattle.ring_core.specs.declared.words.SlotWord.{SlotWord}
+use Rattle.playout.specs.declared.reply.FileReply.TheVariants.{Accepted}
 use Rattle.step_table.specs.Packed.{pack_slot, Fits}
 use Rattle.step_table.specs.Kinds.{StepKind, told, word_read}
 use Rattle.slot_ring.specs.Kept.{reply_after}

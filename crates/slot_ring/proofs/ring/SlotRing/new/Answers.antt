@@ -1,6 +1,6 @@
 use Rattle.std.proofs.Common.{rules, ◌≡◌, ◌+◌, ℕ, ap, ◌∙◌}
-use Rattle.play_machine.specs.declared.views.Shape.{Shape}
-use Rattle.play_machine.specs.Opening.{all_rights}
+use Rattle.ring_core.specs.declared.views.Shape.{Shape}
+use Rattle.ring_core.specs.Opening.{all_rights}
 use Rattle.step_table.specs.Packed.{SeatState}
 use Rattle.slot_ring.specs.Seen.{rights_in}
 use Rattle.slot_ring.specs.Remains.{shape_of}

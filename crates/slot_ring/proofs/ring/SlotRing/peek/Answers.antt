@@ -1,6 +1,6 @@
 use Rattle.std.proofs.Common.{◌≡◌, ◌∙◌, ◌∷◌, [], ◌++◌, ℕ, Some, ap, subst}
-use Rattle.play_machine.specs.declared.call.Call.TheVariants.{PeekCall}
-use Rattle.slot_ring.specs.Seen.{PassView, position_in}
+use Rattle.playout.specs.declared.call.Call.TheVariants.{PeekCall}
+use Rattle.slot_ring.specs.Seen.{PassView, position_in, PeekSays}
 use Rattle.slot_ring.proofs.Grows.{grown, knows}
 use Rattle.slot_ring.proofs.Callers.{after_peek, position_stays}
 use Rattle.slot_ring.proofs.ring.SlotRing.peek.Goals as goal
@@ -31,3 +31,9 @@ returns-clause-fresh g c =
     let me = c.pass.inside.seat.me in let now = c.load-found.new.seat.me in
     let r = after_peek me now c.pass.inside.spare c.pass.inside.position _ _ c.pass.invariant c.load-found.ensures.told c.value_in.ensures in
     subst (λ (p : PassView). (x : ℕ) → p.known.base ≡ Some x → c.value_in.result ≡ Some x) c.pass.view_is r.fresh
+
+pub returns-clause-word : goal.returns-clause-word
+returns-clause-word g c =
+    let me = c.pass.inside.seat.me in let now = c.load-found.new.seat.me in
+    let r = after_peek me now c.pass.inside.spare c.pass.inside.position _ _ c.pass.invariant c.load-found.ensures.told c.value_in.ensures in
+    subst (λ (p : PassView). PeekSays p.known.base c.value_in.result) c.pass.view_is r.word

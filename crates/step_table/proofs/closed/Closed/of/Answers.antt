@@ -1,6 +1,6 @@
 use Rattle.std.proofs.Common.{rules, ◌≡◌, sym, subst}
 use Rattle.std.specs.Mem.Slots.{slots_items}
-use Rattle.play_machine.specs.declared.views.View.{View}
+use Rattle.ring_core.specs.declared.views.View.{View}
 use Rattle.step_table.specs.Ends.{Ends}
 use Rattle.step_table.proofs.Closing.{ends}
 use Rattle.step_table.proofs.closed.Closed.of.Goals as goal

@@ -1,7 +1,7 @@
 use Rattle.std.proofs.Common.{◌≡◌, ℕ, eqb, sym, ap, ◌∙◌, subst}
 use prog.Atomic.{either}
 use Rattle.atomic_table.specs.Table.{Allows}
-use Rattle.play_machine.specs.declared.views.Shape.{Shape}
+use Rattle.ring_core.specs.declared.views.Shape.{Shape}
 use Rattle.step_table.specs.Packed.{Where, SeatState, Holds}
 use Rattle.step_table.specs.Kinds.{StepKind, publish, source, base, MayExchange, told}
 use Rattle.step_table.proofs.Filing.{publish_allowed}

@@ -1,8 +1,8 @@
 use Rattle.std.proofs.Common.{ℕ, arith, sym, ap, ◌∙◌, subst}
 use Rattle.atomic_table.specs.Table.{Joins}
-use Rattle.play_machine.specs.declared.views.Shape.{Shape}
-use Rattle.play_machine.specs.declared.views.View.{View}
-use Rattle.play_machine.specs.Steps.{spent_view}
+use Rattle.ring_core.specs.declared.views.Shape.{Shape}
+use Rattle.ring_core.specs.declared.views.View.{View}
+use Rattle.ring_core.specs.Steps.{spent_view}
 use Rattle.step_table.specs.Packed.{Where, Holds}
 use Rattle.step_table.specs.Kinds.{StepKind, learn, gather, MayJoin, both_of}
 use Rattle.step_table.proofs.Moving.{learn_allowed, gather_allowed}

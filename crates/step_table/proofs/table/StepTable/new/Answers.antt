@@ -2,10 +2,10 @@ use Rattle.std.proofs.Common.{rules, ◌≡◌, ◌+◌, ◌^◌, ◌<◌, [], �
 use Rattle.std.specs.Prelude.{replicate}
 use mathlib.Core.Option as maybe
 use Rattle.atomic_table.specs.Table.{opening}
-use Rattle.play_machine.specs.declared.views.Shape.{Shape}
-use Rattle.play_machine.specs.Ring.{slot_count}
-use Rattle.play_machine.specs.Opening.{opening_ring}
-use Rattle.play_machine.proofs.AllSteps.{all_opens}
+use Rattle.ring_core.specs.declared.views.Shape.{Shape}
+use Rattle.ring_core.specs.Ring.{slot_count}
+use Rattle.ring_core.specs.Opening.{opening_ring}
+use Rattle.ring_core.proofs.AllSteps.{all_opens}
 use Rattle.step_table.specs.Packed.{Kept, Holds, first_view, IsOpening}
 use Rattle.step_table.specs.Inside.{IsLaid}
 use Rattle.step_table.proofs.Starting.{no_frame, empty_homes, length-words}

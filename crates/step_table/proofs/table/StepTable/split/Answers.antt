@@ -1,6 +1,6 @@
 use Rattle.std.proofs.Common.{ℕ, arith, sym, ap, ◌∙◌, subst}
 use Rattle.atomic_table.specs.Table.{Splits}
-use Rattle.play_machine.specs.declared.views.Shape.{Shape}
+use Rattle.ring_core.specs.declared.views.Shape.{Shape}
 use Rattle.step_table.specs.Packed.{Where, SeatState, Holds}
 use Rattle.step_table.specs.Kinds.{StepKind, split, note, MaySplit, left_of, right_of}
 use Rattle.step_table.proofs.Moving.{split_allowed, note_allowed}

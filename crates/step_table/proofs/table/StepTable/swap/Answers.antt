@@ -1,6 +1,6 @@
 use Rattle.std.proofs.Common.{◌≡◌, ℕ, sym, ap, ◌∙◌, subst}
 use Rattle.atomic_table.specs.Table.{Allows}
-use Rattle.play_machine.specs.declared.views.Shape.{Shape}
+use Rattle.ring_core.specs.declared.views.Shape.{Shape}
 use Rattle.step_table.specs.Packed.{Where, SeatState, Holds}
 use Rattle.step_table.specs.Kinds.{StepKind, tick, enlist, leave, MaySwap, told}
 use Rattle.step_table.proofs.Enlisting.{enlist_allowed}

@@ -1,6 +1,0 @@
-use Rattle.std.proofs.Common.{◌≡◌}
-use Rattle.play_machine.specs.Opening.{slots_from}
-use Rattle.play_machine.proofs.core_state.opening_slots.Given as goal
-
-abbrev pub invariant-loop-i : goal.invariant-loop-i
-invariant-loop-i l = l.words.items ≡ slots_from 0 l.i

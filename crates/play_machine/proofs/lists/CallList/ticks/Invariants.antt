@@ -1,6 +1,0 @@
-use Rattle.std.proofs.Common.{◌≡◌, ◌≤◌, take}
-use Rattle.play_machine.specs.History.{ticks}
-use Rattle.play_machine.proofs.lists.CallList.ticks.Given as goal
-
-abbrev pub invariant-loop-call : goal.invariant-loop-call
-invariant-loop-call l = (l.count ≡ ticks (take l.call-index l.call-items)) × (l.count ≤ l.call-index)

@@ -1,6 +1,0 @@
-use Rattle.std.proofs.Common.{◌≡◌, true, take}
-use Rattle.play_machine.specs.Core.{no_lists}
-use Rattle.play_machine.proofs.lists.Gathered.is_empty.Given as goal
-
-abbrev pub invariant-loop-list : goal.invariant-loop-list
-invariant-loop-list l = no_lists (take l.list-index l.list-items) ≡ true

@@ -1,5 +1,0 @@
-use Rattle.play_machine.proofs.AllSteps.{all_steps}
-use Rattle.play_machine.proofs.ring_laws.steps_keep_the_rule.Goals as goal
-
-pub returns : goal.returns
-returns c = all_steps

@@ -1,0 +1,126 @@
+-- What is accepted is held until its tick, and nothing else is.
+use Rattle.std.proofs.Common.{◌≡◌, ◌⊎◌, inl, inr, ⊎_elim, ℕ, ◌+◌, ◌≤◌, List, [], ◌∷◌, ◌++◌, Option, Some, None, refl, sym, ap, ◌∙◌, subst, arith, le_trans}
+use native.Mathlib.Decide.{ℕ_discrete}
+use Rattle.std.specs.FinMap as map
+use Rattle.std.specs.FinMap.{gets}
+use Rattle.frame_codec.specs.declared.item.Item.{Item}
+use Rattle.playout.specs.declared.call.Call.{Call}
+use Rattle.playout.specs.declared.call.Call.TheVariants.{FileCall, SourceCall, BaseCall, PeekCall, TickCall}
+use Rattle.playout.specs.declared.reply.FileReply.{FileReply}
+use Rattle.playout.specs.declared.reply.FileReply.TheVariants.{Accepted, Duplicate, Late, Beyond}
+use Rattle.playout.specs.Machine.{start, Machine, opening_machine, Replies, FileReplies, after, filed, item_of}
+use Rattle.playout.specs.History.{Entry, entry, IsLegal, after_all, calls, ticks, tick_weight}
+use Rattle.playout.specs.Plays.{WasAccepted, IsAcceptedItem, TicksPlayAccepted}
+use Rattle.playout.proofs.FilingLaws.{get-insert_here, get-insert_else, get-remove_here, get-remove_else}
+
+pub none_some : {f : List ℕ} → Path (Option (List ℕ)) None (Some f) → ⊥
+none_some e = cc
+
+file-position : (m : Machine) (n : ℕ) (f : List ℕ) (r : FileReply) → (filed m n f r).position ≡ m.position
+file-position m n f Accepted = refl
+file-position m n f Duplicate = refl
+file-position m n f (Late a) = refl
+file-position m n f (Beyond a) = refl
+
+pub call-position : (m : Machine) (c : Call) → (after m c).position ≡ m.position + tick_weight c
+call-position m (FileCall n f r) = omega (arith, file-position m n f r)
+call-position m (SourceCall x held) = omega arith
+call-position m (BaseCall x held) = omega arith
+call-position m (PeekCall held) = omega arith
+call-position m (TickCall item) = omega arith
+
+-- the position counts the ticks
+pub position_is : (m : Machine) (h : List Entry) → (after_all m h).position ≡ m.position + ticks (calls h)
+position_is m [] = omega arith
+position_is m (e ∷ h) = omega (arith, position_is (after m e.call) h, call-position m e.call)
+
+pub rises_all : (m : Machine) (h : List Entry) → m.position ≤ (after_all m h).position
+rises_all m h = omega (arith, position_is m h)
+
+-- a frame that is held stays so until its tick
+kept-filed : (r : ℕ) (m : Machine) (n : ℕ) (f : List ℕ) (q : ℕ) (g : List ℕ) (reply : FileReply) → FileReplies r m q reply → map.get m.frames n ≡ Some f → map.get (filed m q g reply).frames n ≡ Some f
+kept-filed r m n f q g Accepted a e = go (ℕ_discrete n q)
+  where
+    go : Dec (n ≡ q) → map.get (map.insert m.frames q g) n ≡ Some f
+    go (yes is) = absurd (none_some (sym a.2 ∙ (ap (λ (z : ℕ). map.get m.frames z) (sym is) ∙ e)))
+    go (no other) = get-insert_else m.frames q n g other ∙ e
+kept-filed r m n f q g Duplicate a e = e
+kept-filed r m n f q g (Late x) a e = e
+kept-filed r m n f q g (Beyond x) a e = e
+
+kept-after : (r : ℕ) (m : Machine) (n : ℕ) (f : List ℕ) (c : Call) → Replies r m c → (after m c).position ≤ n → map.get m.frames n ≡ Some f → map.get (after m c).frames n ≡ Some f
+kept-after r m n f (FileCall q g reply) a le e = kept-filed r m n f q g reply a e
+kept-after r m n f (SourceCall x y) a le e = e
+kept-after r m n f (BaseCall x y) a le e = e
+kept-after r m n f (PeekCall x) a le e = e
+kept-after r m n f (TickCall x) a le e = get-remove_else m.frames m.position n (λ same. omega arith) ∙ e
+
+pub still_there : (r : ℕ) (m : Machine) (h : List Entry) (n : ℕ) (f : List ℕ) → IsLegal r m h → (after_all m h).position ≤ n → map.get m.frames n ≡ Some f → map.get (after_all m h).frames n ≡ Some f
+still_there r m [] n f l le e = e
+still_there r m (x ∷ h) n f l le e = let up = rises_all (after m x.call) h in still_there r (after m x.call) h n f l.1 le (kept-after r m n f x.call l.0 (le_trans up le) e)
+
+-- what was accepted is there until its tick
+pub accepted_there : (r : ℕ) (m : Machine) (h : List Entry) (n : ℕ) (f : List ℕ) → IsLegal r m h → (after_all m h).position ≤ n → WasAccepted n f h → map.get (after_all m h).frames n ≡ Some f
+accepted_there r m [] n f l le a = absurd a
+accepted_there r m (x ∷ h) n f l le a =
+    ⊎_elim
+    (λ (e : x.call ≡ FileCall n f Accepted). still_there r (after m x.call) h n f l.1 le (ap (λ (c : Call). map.get (after m c).frames n) e ∙ get-insert_here m.frames n f))
+    (λ (b : WasAccepted n f h). accepted_there r (after m x.call) h n f l.1 le b)
+    a
+
+-- what is there after a call was there before, or was accepted by it
+there-filed : (m : Machine) (n : ℕ) (f : List ℕ) (q : ℕ) (g : List ℕ) (reply : FileReply) → map.get (filed m q g reply).frames n ≡ Some f → (map.get m.frames n ≡ Some f) ⊎ (FileCall q g reply ≡ FileCall n f Accepted)
+there-filed m n f q g Accepted e = go (ℕ_discrete n q)
+  where
+    go : Dec (n ≡ q) → (map.get m.frames n ≡ Some f) ⊎ (FileCall q g Accepted ≡ FileCall n f Accepted)
+    go (yes is) =
+        let same : g ≡ f = some_one g f (sym (get-insert_here m.frames q g) ∙ ap (λ (z : ℕ). map.get (map.insert m.frames q g) z) (sym is) ∙ e) in
+        inr (λ i. FileCall (sym is i) (same i) Accepted)
+      where
+        some_one : (g f : List ℕ) → Path (Option (List ℕ)) (Some g) (Some f) → g ≡ f
+        some_one g f e = cc
+    go (no other) = inl (sym (get-insert_else m.frames q n g other) ∙ e)
+there-filed m n f q g Duplicate e = inl e
+there-filed m n f q g (Late x) e = inl e
+there-filed m n f q g (Beyond x) e = inl e
+
+there-after : (m : Machine) (n : ℕ) (f : List ℕ) (c : Call) → map.get (after m c).frames n ≡ Some f → (map.get m.frames n ≡ Some f) ⊎ (c ≡ FileCall n f Accepted)
+there-after m n f (FileCall q g reply) e = there-filed m n f q g reply e
+there-after m n f (SourceCall x y) e = inl e
+there-after m n f (BaseCall x y) e = inl e
+there-after m n f (PeekCall x) e = inl e
+there-after m n f (TickCall x) e = go (ℕ_discrete n m.position)
+  where
+    go : Dec (n ≡ m.position) → (map.get m.frames n ≡ Some f) ⊎ (TickCall x ≡ FileCall n f Accepted)
+    go (yes is) = absurd (none_some (sym (get-remove_here m.frames m.position) ∙ ap (λ (z : ℕ). map.get (map.remove m.frames m.position) z) (sym is) ∙ e))
+    go (no other) = inl (sym (get-remove_else m.frames m.position n other) ∙ e)
+
+-- what is there was there at first, or was accepted
+pub there_accepted : (m : Machine) (h : List Entry) (n : ℕ) (f : List ℕ) → map.get (after_all m h).frames n ≡ Some f → (map.get m.frames n ≡ Some f) ⊎ WasAccepted n f h
+there_accepted m [] n f e = inl e
+there_accepted m (x ∷ h) n f e =
+    ⊎_elim
+    (λ (t : map.get (after m x.call).frames n ≡ Some f). ⊎_elim (λ (old : map.get m.frames n ≡ Some f). inl old) (λ (new : x.call ≡ FileCall n f Accepted). inr (inl new)) (there-after m n f x.call t))
+    (λ (t : WasAccepted n f h). inr (inr t))
+    (there_accepted (after m x.call) h n f e)
+
+pub nothing_yet : (n : ℕ) → map.get opening_machine.frames n ≡ None
+nothing_yet n = grind (arith, gets)
+
+-- the reply in the middle of a legal history, and what comes before it
+pub reply_at : (r : ℕ) (m : Machine) (before : List Entry) (e : Entry) (rest : List Entry) → IsLegal r m (before ++ e ∷ rest) → IsLegal r m before × Replies r (after_all m before) e.call
+reply_at r m [] e rest legal = (tt, legal.0)
+reply_at r m (x ∷ before) e rest legal = let later = reply_at r (after m x.call) before e rest legal.1 in ((legal.0, later.0), later.1)
+
+pub plays_accepted : TicksPlayAccepted
+plays_accepted r who before rest item legal =
+    let m : Machine = after_all opening_machine before in
+    let at = reply_at r opening_machine before (entry who (TickCall item)) rest legal in
+    let n : ℕ = start + ticks (calls before) in
+    let here : m.position ≡ n = position_is opening_machine before in
+    let reply : item ≡ item_of (map.get m.frames n) = at.1 ∙ ap (λ (q : ℕ). item_of (map.get m.frames q)) here in
+    subst (λ (i : Item). IsAcceptedItem n before i) (sym reply) (go n before at.0 (omega arith) (map.get m.frames n) refl)
+  where
+    go : (n : ℕ) (before : List Entry) → IsLegal r opening_machine before → (after_all opening_machine before).position ≤ n → (o : Option (List ℕ)) → map.get (after_all opening_machine before).frames n ≡ o → IsAcceptedItem n before (item_of o)
+    go n before legal le None e = λ f was. none_some (sym e ∙ accepted_there r opening_machine before n f legal le was)
+    go n before legal le (Some f) e = ⊎_elim (λ (t : map.get opening_machine.frames n ≡ Some f). absurd (none_some (sym (nothing_yet n) ∙ t))) (λ (t : WasAccepted n f before). t) (there_accepted opening_machine before n f e)

@@ -1,0 +1,5 @@
+use Rattle.recorder.proofs.PlayerUnique.{first_is_one}
+use Rattle.recorder.proofs.laws.player_journals_have_one_fault.Goals as goal
+
+pub returns : goal.returns
+returns c = first_is_one
