@@ -85,11 +85,12 @@ fi
 
 # An interface, an address and a route that go away, in a network namespace of its own. Return speech that cannot be sent ends the
 # player; a socket that only listens notices nothing.
-interface() { # WHAT STATUS CHANGE WORDS...
+interface() { # WHAT STATUS whole|cut CHANGE WORDS...: the player plays to the end of the run, or is cut short
   what=$1
   wanted=$2
-  change=$3
-  shift 3
+  played=$3
+  change=$4
+  shift 4
   timeout 20 unshare -rn sh -c 'ip link set lo up && ip link add name side type veth peer name far && ip addr add 10.9.0.1/24 dev side &&
     ip link set side up && ip link set far up || exit 99; (sleep 0.6; '"$change"') & "$@"; status=$?; wait; exit $status' - \
     "$gateway" serve --ticks 50 --journals "$work/call" --speaker "$work/heard" "$@" >"$work/notes"
@@ -98,17 +99,36 @@ interface() { # WHAT STATUS CHANGE WORDS...
   [ $status = "$wanted" ] || fail "$what: status $status in place of $wanted"
   [ "$(grep -c '^link' "$work/notes")" = 2 ] || fail "$what: the sockets did not run to their ends"
   pieces=$(($(wc -c <"$work/heard") / 320))
-  [ $pieces -ge 1 ] && { [ $pieces -lt 50 ] || [ "$wanted" = 0 ]; } || fail "$what: $pieces pieces were played"
+  case $played in
+  whole) [ $pieces = 50 ] || fail "$what: $pieces pieces were played" ;;
+  cut) [ $pieces -ge 1 ] && [ $pieces -lt 50 ] || fail "$what: $pieces pieces were played" ;;
+  esac
   legal 2
 }
 if has unshare ip && unshare -rn ip link add name side type veth peer name far 2>/dev/null; then
   both="10.9.0.1:23001 127.0.0.1:23001"
-  interface "an interface that goes down under return speech" 6 "ip link set side down" --reply 10.9.0.9:4000 --microphone "$work/mic" $both
-  interface "a route that goes away under return speech" 6 "ip route del 10.9.0.0/24" --reply 10.9.0.9:4000 --microphone "$work/mic" $both
-  interface "the first socket's address that goes away under return speech" 6 "ip link del side" --reply 127.0.0.1:4000 --microphone "$work/mic" $both
-  interface "another socket's address that goes away" 0 "ip link del side" --reply 127.0.0.1:4000 --microphone "$work/mic" 127.0.0.1:23001 10.9.0.1:23001
-  interface "an interface that goes down with nothing to send" 0 "ip link set side down" --reply 10.9.0.9:4000 --microphone /dev/null $both
-  interface "a reply address where no host is" 0 true --reply 10.9.0.9:4000 --microphone "$work/mic" $both
+  interface "an interface that goes down under return speech" 6 cut "ip link set side down" --reply 10.9.0.9:4000 --microphone "$work/mic" $both
+  interface "a route that goes away under return speech" 6 cut "ip route del 10.9.0.0/24" --reply 10.9.0.9:4000 --microphone "$work/mic" $both
+  interface "the first socket's address that goes away under return speech" 6 cut "ip link del side" --reply 127.0.0.1:4000 --microphone "$work/mic" $both
+  interface "another socket's address that goes away" 0 whole "ip link del side" --reply 127.0.0.1:4000 --microphone "$work/mic" 127.0.0.1:23001 10.9.0.1:23001
+  interface "an interface that goes down with nothing to send" 0 whole "ip link set side down" --reply 10.9.0.9:4000 --microphone /dev/null $both
+  interface "a reply address where no host is" 0 whole true --reply 10.9.0.9:4000 --microphone "$work/mic" $both
+  # (a datagram that is dropped on its way out fails to be sent)
+  cat >"$work/valid.py" <<'PY'
+import socket, struct, time
+out = socket.socket(socket.AF_INET, socket.SOCK_DGRAM)
+for n in range(20):
+    out.sendto(struct.pack(">BBHII", 128, 3, n, 160 * n, 9) + bytes([0xD0]) + bytes(32), ("127.0.0.1", 23001))
+    time.sleep(0.01)
+PY
+  drop="table inet gate { chain out { type filter hook output priority 0; udp sport 23001 drop; }; }"
+  if has nft python3 && unshare -rn nft "$drop" 2>/dev/null; then
+    interface "a report that cannot be sent" 6 whole "nft '$drop'; python3 '$work/valid.py'" --report 5 --reply 127.0.0.1:4000 \
+      --microphone /dev/null 127.0.0.1:23001 127.0.0.1:23002
+    grep -q '^link 0 datagrams [1-9]' "$work/notes" || fail "no packet came to the socket whose report cannot be sent"
+  else
+    echo "skipped: a report that cannot be sent wants nft and python3 (Debian's nftables)"
+  fi
 else
   echo "skipped: no network namespace is to be had (util-linux's unshare, iproute2)"
 fi

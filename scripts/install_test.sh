@@ -113,6 +113,16 @@ run.wait()
 valid = int.from_bytes(report[16:20], "big")
 if valid != int(ranges["report"][2]):
     fail(f"the first report is of {valid} valid packets")
+# The numbers of make, and the key.
+for name, low, high, at in (("SEED", 0, 2**64 - 1, 0), ("COUNT", 1, 1000000, 1), ("FILERS", 1, 64, 2)):
+    for value, wanted in ((low, 0), (high if name != "COUNT" else 1000, 0), (high + 1, 2), (low - 1, 2)):
+        numbers = ["1", "1", "1"]
+        numbers[at] = str(value)
+        if subprocess.run([gate, "make", *numbers, "made"], stdout=subprocess.DEVNULL).returncode != wanted:
+            fail(f"make with {name} {value}: the status is not {wanted}")
+for seed, wanted in (("0aF" * 21 + "9", 0), ("0" * 63, 2), ("0" * 65, 2), ("g" * 64, 2)):
+    if serve("--seed", seed).returncode != wanted:
+        fail(f"--seed {seed}: the status is not {wanted}")
 options = set(re.findall(r"--(\w+)", formats.split("\n## ")[1])) - {"help", "version", "name"}
 shown = set(re.findall(r"^\.BI? \\-\\-(\w+)", page, re.M))
 if options != shown:
