@@ -154,9 +154,9 @@ def stop_and_continue(gateway, stops):
     lasts = [0.05, 0.2, 1.0]
     while not over.wait(20):
         stops.append((time.monotonic(), float("inf")))
-        os.kill(gateway.pid, signal.SIGSTOP)
+        gateway.send_signal(signal.SIGSTOP)
         time.sleep(lasts[len(stops) % 3])
-        os.kill(gateway.pid, signal.SIGCONT)
+        gateway.send_signal(signal.SIGCONT)
         stops[-1] = (stops[-1][0], time.monotonic())
 
 
@@ -167,9 +167,9 @@ def main():
     gateway = subprocess.Popen([program, *words], stdout=open(f"{folder}/notes", "w"))
     stops = []
     time.sleep(0.3)
-    threads = [multiprocessing.Process(target=speak, args=(time.monotonic(),)), multiprocessing.Process(target=flood),
-               threading.Thread(target=stop_and_continue, args=(gateway, stops))]
-    for it in threads:
+    others = [multiprocessing.Process(target=speak, args=(time.monotonic(),)), multiprocessing.Process(target=flood),
+              threading.Thread(target=stop_and_continue, args=(gateway, stops))]
+    for it in others:
         it.start()
     try:
         rows = watch(gateway, heard, stops)
@@ -177,7 +177,7 @@ def main():
         over.set()
         if gateway.poll() is None:
             gateway.kill()
-        for it in threads:
+        for it in others:
             it.join()
     print("sent: " + ", ".join(f"{number} {what}" for what, number in zip(KINDS, counts)) + f"; {len(stops)} stops")
     notes = [line.split() for line in open(f"{folder}/notes")]
