@@ -45,13 +45,13 @@ def fail(what):
     print(f"failed: {what}")
 
 
-words = ["serve", "--reply", "127.0.0.1:26900", "--speaker", "heard", "--microphone", "mic", "--journals", "call"]
+words = ["serve", "--reply", "127.0.0.1:28900", "--speaker", "heard", "--microphone", "mic", "--journals", "call"]
 open("mic", "wb").write(bytes(320 * 3))
 
 
 def serve(*more):
     ticks = [] if "--ticks" in more else ["--ticks", "1"]
-    return subprocess.run([gate, *words, *ticks, *more, "127.0.0.1:26901"], stdout=subprocess.PIPE, text=True, timeout=60)
+    return subprocess.run([gate, *words, *ticks, *more, "127.0.0.1:28901"], stdout=subprocess.PIPE, text=True, timeout=60)
 
 
 def paged(option):
@@ -85,14 +85,14 @@ if open("call.player", "rb").read()[9] != int(ranges["ring"][2]):
 
 # What is sent without words: the first packet of return speech; a report after so many packets.
 back = socket.socket(socket.AF_INET, socket.SOCK_DGRAM)
-back.bind(("127.0.0.1", 26900))
+back.bind(("127.0.0.1", 28900))
 serve()
 first = struct.unpack(">BBHII", back.recv(2048)[:12])
 if first != (128, 3, *(int(ranges[it][2]) for it in ("sequence", "stamp", "ssrc"))):
     fail(f"what is sent first has {first}")
 sender = socket.socket(socket.AF_INET, socket.SOCK_DGRAM)
-run = subprocess.Popen([gate, *words, "--ticks", "1000", "127.0.0.1:26901"], stdout=subprocess.DEVNULL)
-sender.connect(("127.0.0.1", 26901))
+run = subprocess.Popen([gate, *words, "--ticks", "1000", "127.0.0.1:28901"], stdout=subprocess.DEVNULL)
+sender.connect(("127.0.0.1", 28901))
 sender.settimeout(0.002)
 sent, report, bound = 0, b"", False
 while run.poll() is None and not report:
@@ -174,7 +174,7 @@ grep -q '^ExecStart=.*/opt/gate/bin/gsmgate serve' "$unit" || fail "the unit doe
 command=$(sed -e ':a' -e '/\\$/N; s/\\\n *//; ta' "$unit" | sed -n 's/^ExecStart=//p' |
   sed -e 's/\$\$/$/g; s/%%/%/g; s/%i/desk/g' -e "s#/opt/gate#$here#; s#/var/lib/gsmgate#$work/state#")
 mkdir -p "$work/state/desk"
-env $(sed -n 's/^Environment=//p' "$unit") TICKS=5 OPTIONS="--ring 4 --delay 2" LISTEN="127.0.0.1:26910 127.0.0.1:26911" REPLY=127.0.0.1:26912 \
+env $(sed -n 's/^Environment=//p' "$unit") TICKS=5 OPTIONS="--ring 4 --delay 2" LISTEN="127.0.0.1:28910 127.0.0.1:28911" REPLY=127.0.0.1:28912 \
   bash -c "$command" >"$work/notes" || fail "the unit's command ended with $?"
 [ "$(grep -c '^link' "$work/notes")" = 2 ] && [ "$(ls "$work"/state/desk/call-2*T*.{player,0,1} | wc -l)" = 3 ] ||
   fail "the unit's command: $(cat "$work/notes")"

@@ -134,8 +134,8 @@ def watch(gateway, heard, stops):
         if size > played:
             first = min(now - TICK * size, first if first is not None else now)
             late = now - TICK * size - first
-            # (what is late behind a stop is told apart)
-            if any(begin <= now <= end + 0.5 for begin, end in stops):
+            # (what is late within two seconds of a stop is told apart: the backlog of all sockets is worked off too)
+            if any(begin <= now <= end + 2 for begin, end in stops):
                 held = max(held, late)
             else:
                 worst = max(worst, late)
