@@ -1,10 +1,11 @@
 # What the benches share: the program, a room that goes away at the end, and the time of a command.
-# The program is that of `rt run`, in crates/gsmgate/out, or in that of the crate which a bench names. What is missing is
-# skipped, with a line that says so.
+# The program is that of `rt run`, in crates/gsmgate/out (or that at the path in GSMGATE), or in out/ of the crate which a bench
+# names. What is missing is skipped, with a line that says so.
 set -u
 top=$(cd "$(dirname "${BASH_SOURCE[0]}")/.." && pwd)
 crate=${crate:-gsmgate}
 program=$top/crates/$crate/out/$crate
+[ $crate != gsmgate ] || program=${GSMGATE:-$program}
 gateway=$program
 work=$(mktemp -d)
 trap 'rm -rf "$work"' EXIT
