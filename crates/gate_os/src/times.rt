@@ -1,7 +1,7 @@
 // Times of ticks, how long a link lasts and waits, and moments of datagrams.
-ghost use Rattle.std.specs.Prelude.{◌≡◌, ◌-◌, ◌/◌, ◌%◌, ◌^◌, None, IfSome};
+ghost use Rattle.std.specs.Prelude.{◌≡◌, nat_le, option_map};
 ghost use Rattle.std.specs.Duration.{as_nanos};
-ghost use Rattle.gate_os.specs.Edges.{lasting, millis, ticks_time};
+ghost use Rattle.gate_os.specs.Edges.{lasting, left_of, millis, moment_at, ticks_time};
 
 use std::time::Duration;
 
@@ -22,8 +22,7 @@ pub(crate) fn time_of(ticks: u64) -> Duration
 /// What is left to the time of a tick, counted from 1, where so much has passed: nothing where it is over. Where it is not
 /// known what has passed, that is one tick.
 pub(crate) fn left_to(tick: u64, passed: Option<Duration>) -> Duration
-    ensures known { IfSome passed (λ p. as_nanos result ≡ ticks_time tick - as_nanos p) }
-    ensures unknown { passed ≡ None → as_nanos result ≡ ticks_time 1 }
+    ensures { as_nanos result ≡ left_of tick (option_map as_nanos passed) }
 {
     match passed {
         Some(passed) => time_of(tick).saturating_sub(passed),
@@ -38,6 +37,16 @@ pub(crate) fn life_of(ticks: u64) -> Duration
     Duration::from_millis(ticks.saturating_mul(TICK).saturating_add(AFTER))
 }
 
+/// Whether a life that lasts so long is over at an age, where that is known.
+pub(crate) fn is_past(lasts: Duration, age: Option<Duration>) -> Option<bool>
+    ensures { result ≡ option_map (nat_le (as_nanos lasts)) (option_map as_nanos age) }
+{
+    match age {
+        Some(age) => Some(lasts.as_nanos() <= age.as_nanos()),
+        None => None,
+    }
+}
+
 /// The longest wait for a datagram.
 pub(crate) fn patience() -> Duration
     ensures { as_nanos result ≡ millis 5 }
@@ -47,7 +56,7 @@ pub(crate) fn patience() -> Duration
 
 /// A time in 8000ths of a second, modulo 2^32, as RTP counts it for speech (RFC 3551).
 pub(crate) fn moment_of(passed: Duration) -> u32
-    ensures { result ≡ as_nanos passed / 1_000 / 125 % 2 ^ 32 }
+    ensures { result ≡ moment_at (as_nanos passed) }
 {
     (passed.as_micros() / 125 % 4_294_967_296) as u32
 }

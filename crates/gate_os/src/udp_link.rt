@@ -3,9 +3,10 @@ ghost use Rattle.std.specs.Prelude.{◌≡◌, true, false, Ok, None, is_some, l
 ghost use Rattle.gate_base.specs.Faults.{HasCause};
 ghost use Rattle.gate_io.specs.Links.{Receives, Sends, IsWithin, Ends};
 ghost use Rattle.gate_io.specs.declared.received.Received.{Received};
-ghost use Rattle.gate_os.specs.Edges.{SocketState, SenderKnown, TargetAfter, count_after, lasting};
+ghost use Rattle.gate_os.specs.Edges.{EndsByLife, IsTimed, LifeState, SocketState, SenderKnown, TargetAfter, count_after, lasting, nanos_of};
 
-use crate::times::{life_of, moment_of};
+use crate::life::Life;
+use crate::reading::Reading;
 use crate::udp_socket::{PolledSocket, address_of, open_towards};
 use gate_base::{FaultCount, OutOfMemory};
 use gate_io::{Failed, Link, Received};
@@ -16,12 +17,13 @@ use std::io::ErrorKind;
 use std::marker::Model;
 use std::net::{Net, SocketAddr};
 use std::sync::Wait;
-use std::time::{Clock, Duration};
+use std::time::Clock;
 
 /// A UDP socket that takes datagrams of up to 2048 octets, longer ones cut to that.
 ///
-/// It waits at most 5 ms for a datagram. One second after the time of its ticks, of 20 ms, it has ended. A socket that
-/// could not be bound fails at each call.
+/// It waits at most 5 ms for a datagram. One second after the time of its ticks, of 20 ms, it has ended; its life begins
+/// where it is bound, or where `begin` says. A socket that could not be bound fails at each call, and where the system's
+/// clock cannot be read a receive fails.
 #[derive(Drop)]
 pub struct UdpLink<'a, R: Clock> {
     rt: &'a R,
@@ -29,19 +31,18 @@ pub struct UdpLink<'a, R: Clock> {
     // Where datagrams go: the address that was given, or the last sender.
     there: Option<SocketAddr>,
     is_fixed: bool,
-    life: Duration,
+    life: Life,
     ended: bool,
     faults: FaultCount,
 }
 
 impl<'a, R: Clock> Model for UdpLink<'a, R> {
     ghost use Rattle.std.specs.Prelude.{◌≡◌, true, is_some};
-    ghost use Rattle.std.specs.Duration.{as_nanos};
     ghost use Rattle.gate_os.specs.Edges.{SocketState};
 
     ghost Value = { SocketState };
 
-    ghost view = { λ s. record { is_bound = is_some s.inside; has_target = is_some s.there; life = as_nanos s.life; ended = s.ended; faults = s.faults } };
+    ghost view = { λ s. record { is_bound = is_some s.inside; has_target = is_some s.there; life = s.life; ended = s.ended; faults = s.faults } };
 
     ghost invariant = { λ s. s.is_fixed ≡ true → is_some s.inside ≡ true → is_some s.there ≡ true };
 }
@@ -58,7 +59,7 @@ impl<'a, R: Net + Clock + Wait + Sync> UdpLink<'a, R> {
         ticks: u64,
     ) -> Result<Self, OutOfMemory>
         ensures ended { IfOk result (λ s. s.ended ≡ false) }
-        ensures life { IfOk result (λ s. s.life ≡ lasting ticks) }
+        ensures life { IfOk result (λ s. s.life.lasts ≡ lasting ticks) }
         ensures counted { IfOk result (λ s. s.faults ≡ 0) }
         ensures to_senders { length there.now ≡ 0 → IfOk result (λ s. s.has_target ≡ false) }
         ensures to_there { (length there.now ≡ 0 → ⊥) → IfOk result (λ s. s.is_bound ≡ true → s.has_target ≡ true) }
@@ -80,7 +81,7 @@ impl<'a, R: Net + Clock + Wait + Sync> UdpLink<'a, R> {
             inside,
             there: target,
             is_fixed,
-            life: life_of(ticks),
+            life: Life::new(rt, ticks),
             ended: false,
             faults: FaultCount::new(),
         })
@@ -92,7 +93,7 @@ impl<'a, R: Net + Clock + Wait + Sync> UdpLink<'a, R> {
     /// over this link. Only want of memory is answered here.
     pub fn answering(&self, alloc: Global, there: &str, ticks: u64) -> Result<Self, OutOfMemory>
         ensures ended { IfOk result (λ s. s.ended ≡ false) }
-        ensures life { IfOk result (λ s. s.life ≡ lasting ticks) }
+        ensures life { IfOk result (λ s. s.life.lasts ≡ lasting ticks) }
         ensures counted { IfOk result (λ s. s.faults ≡ 0) }
         ensures to_there { IfOk result (λ s. s.is_bound ≡ true → s.has_target ≡ true) }
     {
@@ -107,37 +108,56 @@ impl<'a, R: Net + Clock + Wait + Sync> UdpLink<'a, R> {
             inside,
             there: target,
             is_fixed: true,
-            life: life_of(ticks),
+            life: Life::new(self.rt, ticks),
             ended: false,
             faults: FaultCount::new(),
         })
     }
 }
 
+impl<'a, R: Clock> UdpLink<'a, R> {
+    /// Lets the life of the link begin at this reading of the clock.
+    pub fn begin(&mut self, start: Reading)
+        ensures { self.new ≡ record self.old { life = record self.old.life { begun = nanos_of start } } }
+    {
+        self.life.begin(start);
+    }
+}
+
+// The fault of a clock that cannot be read.
+fn no_time() -> io::Error {
+    io::Error::from(ErrorKind::Unsupported)
+}
+
 /// What the socket answers, and the sender of a datagram.
 fn receive_from<R: Clock>(
     rt: &R,
     inside: &mut Option<PolledSocket>,
-    life: Duration,
+    life: &mut Life,
     into: &mut [u8; 2048],
 ) -> io::Result<(Received, Option<SocketAddr>)>
     ensures bound { is_some inside.new ≡ is_some inside.old }
     ensures open { IfOk result (λ _. is_some inside.old ≡ true) }
     ensures sender { IfOk result (λ p. SenderKnown p.0 p.1) }
     ensures within { IfOk result (λ p. IsWithin 2048 p.0) }
+    ensures past { IfOk result (λ p. EndsByLife life.new p.0) }
+    ensures timed { IfOk result (λ p. IsTimed life.new p.0) }
+    ensures lasts { life.new ≡ record life.old { asked = life.new.asked; heard = life.new.heard } }
 {
     let Some(socket) = inside else {
         return Err(io::Error::from(ErrorKind::NotConnected));
     };
-    if socket.age(rt)? >= life {
-        return Ok((Received::Ended, None));
+    match life.ask(rt) {
+        Some(true) => return Ok((Received::Ended, None)),
+        Some(false) => {}
+        None => return Err(no_time()),
     }
-    match socket.take(&mut into[..])? {
-        Some((len, from)) => {
-            let at = moment_of(socket.age(rt)?);
-            Ok((Received::Datagram { len, at }, Some(from)))
-        }
-        None => Ok((Received::Idle, None)),
+    let Some((len, from)) = socket.take(&mut into[..])? else {
+        return Ok((Received::Idle, None));
+    };
+    match life.hear(rt) {
+        Some(at) => Ok((Received::Datagram { len, at }, Some(from))),
+        None => Err(no_time()),
     }
 }
 
@@ -170,14 +190,16 @@ impl<'a, R: Clock> Link for UdpLink<'a, R> {
         ensures over { self.old.ended ≡ true → result ≡ Ok Received.Ended }
         ensures unbound { self.old.is_bound ≡ false → self.old.ended ≡ false → IsErr result }
         ensures bound { self.new.is_bound ≡ self.old.is_bound }
-        ensures lasts { self.new.life ≡ self.old.life }
+        ensures past { self.old.ended ≡ false → IfOk result (EndsByLife self.new.life) }
+        ensures timed { IfOk result (IsTimed self.new.life) }
+        ensures lasts { self.new.life ≡ record self.old.life { asked = self.new.life.asked; heard = self.new.life.heard } }
         ensures target { TargetAfter self.old.has_target self.new.has_target result }
         ensures counted { self.new.faults ≡ count_after result self.old.faults }
     {
         if self.ended {
             return Ok(Received::Ended);
         }
-        match receive_from(self.rt, &mut self.inside, self.life, into) {
+        match receive_from(self.rt, &mut self.inside, &mut self.life, into) {
             Ok((Received::Datagram { len, at }, from)) => {
                 if !self.is_fixed {
                     self.there = from;
@@ -218,7 +240,9 @@ impl<'a, R: Clock> Link for UdpLink<'a, R> {
 #[cfg(test)]
 mod tests {
     use super::*;
+    use crate::hand_clock::HandClock;
     use std::test::Fail;
+    use std::time::{Duration, Instant};
 
     fn is_send<T: Send>(_: &T) {}
 
@@ -282,12 +306,9 @@ mod tests {
         is_send(&near);
         assert!(rt; !sends(&mut near, b"nobody") && is_idle(&mut near));
         assert!(rt; sends(&mut far, b"hello"));
-        let first = heard(&mut near, b"hello");
+        assert!(rt; hears(&mut near, b"hello"));
         assert!(rt; sends(&mut near, b"back") && hears(&mut far, b"back"));
-        std::thread::sleep(&rt, Duration::from_millis(30));
-        assert!(rt; sends(&mut far, &[7; 2049]));
-        let second = heard(&mut near, &[7; 2048]);
-        assert!(rt; matches!((first, second), (Some(a), Some(b)) if b.wrapping_sub(a) >= 240));
+        assert!(rt; sends(&mut far, &[7; 2049]) && hears(&mut near, &[7; 2048]));
         Ok(())
     }
 
@@ -361,27 +382,83 @@ mod tests {
         Ok(())
     }
 
-    // How long a link lasted, where it ended within a thousand turns.
-    fn lasted<R: Clock>(rt: &R, link: &mut UdpLink<'_, R>) -> Option<Duration> {
+    // Whether a link ends within a thousand turns.
+    fn ends<R: Clock>(link: &mut UdpLink<'_, R>) -> bool {
         let mut piece = [0; 2048];
         for _ in 0..1000 {
             if link.receive(&mut piece) == Ok(Received::Ended) {
-                let Some(socket) = &link.inside else {
-                    return None;
-                };
-                return socket.age(rt).ok();
+                return true;
             }
         }
-        None
+        false
     }
 
     #[test]
     fn ends_a_second_after_its_ticks(rt: HostRuntime) -> Result<(), Fail> {
+        let begun = Instant::now(&rt)?;
         let (mut link, _) = free(&rt, "", 5)?;
-        let age = lasted(&rt, &mut link);
-        assert!(rt; matches!(age, Some(age) if age >= Duration::from_millis(1100)));
+        assert!(rt; ends(&mut link) && begun.elapsed(&rt)? >= Duration::from_millis(1100));
         let mut piece = [0; 2048];
         assert_eq!(rt; link.receive(&mut piece), Ok(Received::Ended));
+        Ok(())
+    }
+
+    // A link of five ticks over a clock that is moved by hand, and the text of its address.
+    fn by_hand<'a, R: Net + Clock + AllocGlobal>(
+        rt: &R,
+        hand: &'a HandClock,
+    ) -> Result<(UdpLink<'a, HandClock>, String), Fail> {
+        let events = Events::with_capacity(rt.alloc(), 1)?;
+        let socket = PolledSocket::open(rt, events, "127.0.0.1:0")?;
+        let here = format!(in rt.alloc(); "{}", socket.here()?)?;
+        let link = UdpLink {
+            rt: hand,
+            inside: Some(socket),
+            there: None,
+            is_fixed: false,
+            life: Life::new(hand, 5),
+            ended: false,
+            faults: FaultCount::new(),
+        };
+        Ok((link, here))
+    }
+
+    #[test]
+    fn lives_from_where_it_is_begun(rt: HostRuntime) -> Result<(), Fail> {
+        let hand = HandClock::new();
+        let (mut link, _) = by_hand(&rt, &hand)?;
+        hand.pass(Duration::from_secs(60));
+        link.begin(Reading::now(&hand));
+        assert!(rt; is_idle(&mut link));
+        hand.pass(Duration::from_millis(1099));
+        assert!(rt; is_idle(&mut link));
+        hand.pass(Duration::from_millis(1));
+        let mut piece = [0; 2048];
+        assert_eq!(rt; link.receive(&mut piece), Ok(Received::Ended));
+        Ok(())
+    }
+
+    #[test]
+    fn a_moment_is_the_age_of_its_link(rt: HostRuntime) -> Result<(), Fail> {
+        let hand = HandClock::new();
+        let (mut near, at_near) = by_hand(&rt, &hand)?;
+        let (mut far, _) = free(&rt, at_near.as_str(), 1000)?;
+        hand.pass(Duration::from_millis(30));
+        assert!(rt; sends(&mut far, b"first"));
+        assert_eq!(rt; heard(&mut near, b"first"), Some(240));
+        hand.pass(Duration::from_millis(20));
+        assert!(rt; sends(&mut far, b"second"));
+        assert_eq!(rt; heard(&mut near, b"second"), Some(400));
+        Ok(())
+    }
+
+    #[test]
+    fn where_the_clock_cannot_be_read_a_receive_fails(rt: HostRuntime) -> Result<(), Fail> {
+        let hand = HandClock::new();
+        let (mut link, _) = by_hand(&rt, &hand)?;
+        hand.fail();
+        let mut piece = [0; 2048];
+        assert_eq!(rt; link.receive(&mut piece), Err(Failed));
         Ok(())
     }
 

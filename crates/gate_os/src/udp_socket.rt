@@ -8,9 +8,8 @@ use std::io;
 use std::io::ErrorKind;
 use std::net::{Net, SocketAddr, ToSocketAddrs};
 use std::os::fd::AsFd;
-use std::time::{Clock, Duration, Instant};
 
-/// A bound socket, and when it was bound.
+/// A bound socket.
 ///
 /// The poll tells changes alone: where datagrams are left it says nothing. So the socket is read until it has nothing, and
 /// only then waited for.
@@ -19,7 +18,6 @@ pub(crate) struct PolledSocket {
     socket: UdpSocket,
     poll: Poll,
     events: Events,
-    begun: Instant,
     // Whether the last read found nothing, and no change came since.
     is_drained: bool,
 }
@@ -34,7 +32,7 @@ pub(crate) fn address_of<R: Net>(rt: &R, text: &str) -> io::Result<SocketAddr> {
 
 /// A socket from which datagrams go to an address: at the port of the given one, where that is bound and of the same family,
 /// and else at a port that the system chooses.
-pub(crate) fn open_towards<R: Net + Clock>(
+pub(crate) fn open_towards<R: Net>(
     rt: &R,
     events: Events,
     beside: &Option<PolledSocket>,
@@ -49,17 +47,17 @@ pub(crate) fn open_towards<R: Net + Clock>(
 
 impl PolledSocket {
     /// Binds a socket at the address that the text names.
-    pub(crate) fn open<R: Net + Clock>(rt: &R, events: Events, here: &str) -> io::Result<Self> {
+    pub(crate) fn open<R: Net>(rt: &R, events: Events, here: &str) -> io::Result<Self> {
         PolledSocket::over(rt, events, UdpSocket::bind(rt, address_of(rt, here)?)?)
     }
 
-    /// Another handle of the same socket, with a poll and an age of its own.
-    fn twin<R: Net + Clock>(&self, rt: &R, events: Events) -> io::Result<Self> {
+    /// Another handle of the same socket, with a poll of its own.
+    fn twin<R: Net>(&self, rt: &R, events: Events) -> io::Result<Self> {
         let handle = self.socket.as_fd().try_clone_to_owned()?;
         PolledSocket::over(rt, events, UdpSocket::from(handle))
     }
 
-    fn over<R: Net + Clock>(rt: &R, events: Events, mut socket: UdpSocket) -> io::Result<Self> {
+    fn over<R: Net>(rt: &R, events: Events, mut socket: UdpSocket) -> io::Result<Self> {
         let poll = Poll::new(rt)?;
         poll.registry()
             .register(&mut socket, Token(0), Interest::READABLE)?;
@@ -67,14 +65,8 @@ impl PolledSocket {
             socket,
             poll,
             events,
-            begun: Instant::now(rt)?,
             is_drained: false,
         })
-    }
-
-    /// The time since the socket was bound.
-    pub(crate) fn age<R: Clock>(&self, rt: &R) -> io::Result<Duration> {
-        self.begun.elapsed(rt)
     }
 
     /// The address at which the socket is bound.

@@ -1,33 +1,30 @@
--- The objects of a line of serve, and what the words of a line come to before they run.
-use Rattle.std.specs.Prelude.{◌≡◌, ◌⊎◌, ℕ, ◌+◌, List, length, Option, Some, None, false}
+-- The objects of a line, and what the words of a line come to before they run.
+use Rattle.std.specs.Prelude.{◌≡◌, ◌⊎◌, ℕ, ◌+◌, List, length, map, Option, Some, None, true, false}
 use Rattle.std.specs.List.{AllByRecursion}
+use Rattle.std.specs.String.{string_bytes}
 use Rattle.std.specs.Io.KnownBytes.{Keeps}
-use Rattle.gate_io.specs.Clocks.{ClockState}
-use Rattle.gate_os.specs.Edges.{FileState, SocketState, lasting}
-use Rattle.command_line.specs.Said.{FilesSaid, ServeSaid, Text}
-use Rattle.command_line.specs.Lines.{Said, fits_serve}
-use Rattle.command_line.specs.declared.line.Line.TheVariants.{Files, Serve}
-use Rattle.gsmgate.specs.Commands.{EndsAs}
+use Rattle.gate_os.specs.Edges.{FileState, SocketState, TicksState, lasting}
+use Rattle.command_line.specs.Said.{Text}
+use Rattle.command_line.specs.Lines.{Said}
+use Rattle.command_line.specs.declared.line.Line.TheVariants as line
 use Rattle.gate_notes.specs.Exchange.{GainedUnlessFault, Giving}
 use Rattle.gate_notes.specs.Notes.{usage_line}
-use Rattle.serve_runs.specs.Serve.{serve_lines}
-use Rattle.recorder.specs.declared.tally.Tally.{Tally}
-use Rattle.recorder.specs.declared.tally.PlayTally.{PlayTally}
-use Rattle.filer.specs.declared.run.FilerEnd.{FilerEnd}
 use Rattle.gsmgate.specs.declared.gateway.Gateway.{Gateway}
+use Rattle.gsmgate.specs.declared.gateway.Streams.{Streams}
 use Rattle.gsmgate.specs.declared.places.Places.{Places}
+use Rattle.gsmgate.specs.declared.starting.FilesOpen.{FilesOpen}
+use Rattle.gsmgate.specs.declared.starting.ServeOpen.{ServeOpen}
 use Rattle.gsmgate.specs.declared.starting.Started.{Started}
-use Rattle.gsmgate.specs.declared.starting.Started.TheVariants.{Ended, Open}
+use Rattle.gsmgate.specs.declared.starting.Started.TheVariants.{Ended, Files, Serve}
 use Rattle.gate_notes.specs.declared.status.Status.{Status}
 use Rattle.gate_notes.specs.declared.status.Status.TheVariants.{Usage, OutOfMemory}
 
-abbrev pub SystemGateway : Type 0
-SystemGateway = Gateway SocketState FileState FileState FileState ClockState
+-- ---- sockets, and the clock
 
 -- a socket that has neither failed nor ended, lasts so long, and sends to whom it hears
 pub record IsFresh (life : ℕ) (s : SocketState) : Type 0 where
   pub target : s.has_target ≡ false
-  pub life_is : s.life ≡ life
+  pub lasts : s.life.lasts ≡ life
   pub ended : s.ended ≡ false
   pub faults : s.faults ≡ 0
 
@@ -36,26 +33,50 @@ pub record AreFresh (life count : ℕ) (sockets : List SocketState) : Type 0 whe
   pub many : length sockets ≡ count
   pub fresh : AllByRecursion (IsFresh life) sockets
 
--- one that has neither failed nor ended, and lasts so long
+-- one that has neither failed nor ended, lasts so long, and knows whom it sends to
 pub record IsReply (life : ℕ) (s : SocketState) : Type 0 where
-  pub life_is : s.life ≡ life
+  pub target : s.is_bound ≡ true → s.has_target ≡ true
+  pub lasts : s.life.lasts ≡ life
   pub ended : s.ended ≡ false
   pub faults : s.faults ≡ 0
 
--- a gateway at these places: none of its objects has failed, and its clock is to give the ticks
-pub record IsOpenedAt (p : Places) (g : SystemGateway) : Type 0 where
-  pub links : AreFresh (lasting p.ticks) (length p.links.items) g.links.items
-  pub reply : IsReply (lasting p.ticks) g.reply
-  pub microphone : g.microphone.faults ≡ 0
-  pub speaker : g.speaker.faults ≡ 0
-  pub journals : length g.journals.items ≡ length p.journals.items
-  pub clock : g.clock ≡ record { ticks = 0; left = p.ticks; ended = false }
+-- a socket whose life begins at a reading, and is else as it was
+abbrev pub begun_at : Option ℕ → SocketState → SocketState
+begun_at start s = record s { life = record s.life { begun = start } }
 
--- as many links and journals as the words name, and a clock of their ticks
-pub record IsOpened (said : ServeSaid) (g : SystemGateway) : Type 0 where
-  pub links : length g.links.items ≡ length said.listen
-  pub journals : length g.journals.items ≡ length said.listen + 1
-  pub clock : g.clock ≡ record { ticks = 0; left = said.options.ticks; ended = false }
+-- its life begins at a reading
+abbrev pub Begins : Option ℕ → SocketState → Type 0
+Begins start s = s.life.begun ≡ start
+
+-- a clock that is to give so many ticks, and gave none
+pub record IsUnheard (ticks : ℕ) (c : TicksState) : Type 0 where
+  pub given : c.ticks ≡ 0
+  pub left : c.left ≡ ticks
+  pub ended : c.ended ≡ false
+
+-- so many sockets that listen and one for return speech, whose lives begin with a clock of so many ticks
+pub record IsLive {I O J : Type 0} (ticks count : ℕ) (g : Gateway SocketState I O J TicksState) : Type 0 where
+  pub links : AreFresh (lasting ticks) count g.links.items
+  pub reply : IsReply (lasting ticks) g.reply
+  pub clock : IsUnheard ticks g.clock
+  pub begun : AllByRecursion (Begins g.clock.begun) g.links.items
+  pub answering : Begins g.clock.begun g.reply
+
+-- ---- files
+
+-- files of which none has failed, and so many journals
+pub record AreUnused (journals : ℕ) (s : Streams FileState FileState FileState) : Type 0 where
+  pub microphone : s.microphone.faults ≡ 0
+  pub speaker : s.speaker.faults ≡ 0
+  pub many : length s.journals.items ≡ journals
+
+abbrev pub SystemGateway : Type 0
+SystemGateway = Gateway SocketState FileState FileState FileState TicksState
+
+-- a gateway of so many ticks over so many links and journals, none of whose objects has failed
+pub record IsOpened (ticks links journals : ℕ) (g : SystemGateway) : Type 0 where
+  pub live : IsLive ticks links g
+  pub files : AreUnused journals (record { microphone = g.microphone; speaker = g.speaker; journals = g.journals })
 
 -- ---- what the notes get
 
@@ -63,42 +84,70 @@ pub record IsOpened (said : ServeSaid) (g : SystemGateway) : Type 0 where
 abbrev pub noting : Option (List ℕ) → Option (List ℕ) → ℕ → ℕ → Giving
 noting before now faults faults_now = record { output = None; output_now = None; notes = before; notes_now = now; noted = faults; noted_now = faults_now }
 
+-- what passed to the notes, and to an output
+abbrev pub giving : Option (List ℕ) → Option (List ℕ) → Giving → Giving
+giving before now x = record x { output = before; output_now = now }
+
 -- the notes are as they were
 abbrev pub IsQuiet : Giving → Type 0
 IsQuiet x = Keeps x.notes x.notes_now
 
--- the notes have gained this text, or a front of it where a give to them failed
-abbrev pub HasNoted : Giving → List ℕ → Type 0
-HasNoted x text = GainedUnlessFault x.notes x.notes_now x.noted x.noted_now text
-
 -- the words are refused, and the notes say so
 abbrev pub IsRefused : Status → Giving → Type 0
-IsRefused status x = ((status ≡ Usage) × HasNoted x usage_line) ⊎ ((status ≡ OutOfMemory) × IsQuiet x)
+IsRefused status x = ((status ≡ Usage) × GainedUnlessFault x.notes x.notes_now x.noted x.noted_now usage_line) ⊎ ((status ≡ OutOfMemory) × IsQuiet x)
 
--- a command over files has ended so, and the notes have what it says of its end; of the files nothing is told
-abbrev pub IsDone : FilesSaid → Status → Giving → Type 0
-IsDone said status x = ((status ≡ OutOfMemory) × IsQuiet x) ⊎ ((inputs : List (Option (List ℕ))) × EndsAs said.command status inputs x)
+-- ---- what the words come to
 
--- Words that are no line are refused, those of a command over files are done, and those of serve come to a gateway, but for want of
--- memory.
-abbrev pub Starts : Option Said → Started SystemGateway → Giving → Type 0
-Starts None (Ended status) x = IsRefused status x
-Starts None (Open g) x = ⊥
-Starts (Some (Files said)) (Ended status) x = IsDone said status x
-Starts (Some (Files said)) (Open g) x = ⊥
-Starts (Some (Serve said)) (Ended status) x = (status ≡ OutOfMemory) × IsQuiet x
-Starts (Some (Serve said)) (Open g) x = IsOpened said g × IsQuiet x
+abbrev pub SystemStarted : Type 0
+SystemStarted = Started FileState FileState SystemGateway
 
--- all callers ran to their ends, and the notes have the lines of these
-abbrev pub HasRun : Giving → Type 0
-HasRun x = (played : PlayTally) × (filers : List (FilerEnd × Tally)) × HasNoted x (serve_lines played filers)
+-- a command over files of these words: so many inputs, and an output that has not failed
+pub record AreOpen (words : List Text) (count : ℕ) (o : FilesOpen FileState FileState) : Type 0 where
+  pub said : map string_bytes o.words.items ≡ words
+  pub inputs : length o.inputs.items ≡ count
+  pub output : o.output.faults ≡ 0
 
--- What has ended has its status. A gateway is refused exactly where it is not what the words name, but for want of memory, and else its
--- callers have run.
-abbrev pub IsRunOn : {P I O J C : Type 0} → List Text → Started (Gateway P I O J C) → Status → Giving → Type 0
-IsRunOn words (Ended status) result x = (result ≡ status) × IsQuiet x
-IsRunOn words (Open g) result x =
-    (result ≡ Usage → (fits_serve words (length g.links.items) (length g.journals.items) ≡ false) × HasNoted x usage_line)
-    × (result ≡ OutOfMemory → IsQuiet x)
-    × (fits_serve words (length g.links.items) (length g.journals.items) ≡ false → (result ≡ Usage) ⊎ (result ≡ OutOfMemory))
-    × ((result ≡ Usage) ⊎ ((result ≡ OutOfMemory) ⊎ HasRun x))
+-- what the words name is open at these places
+abbrev pub IsOpenedAt : List Text → Places → SystemStarted → Type 0
+IsOpenedAt words p (Ended status) = ⊥
+IsOpenedAt words p (Files o) = (p.serve ≡ false) × AreOpen words (length p.inputs.items) o
+IsOpenedAt words p (Serve o) =
+    (p.serve ≡ true) × (map string_bytes o.words.items ≡ words) × IsOpened p.ticks (length p.links.items) (length p.journals.items) o.gateway
+
+-- Words that are no line are refused. Those of a command over files come to its files, and those of serve to its gateway, but for want
+-- of memory.
+abbrev pub Starts : List Text → Option Said → SystemStarted → Giving → Type 0
+Starts words None (Ended status) x = IsRefused status x
+Starts words None (Files o) x = ⊥
+Starts words None (Serve o) x = ⊥
+Starts words (Some (line.Files said)) (Ended status) x = (status ≡ OutOfMemory) × IsQuiet x
+Starts words (Some (line.Files said)) (Files o) x = AreOpen words (length said.inputs) o × IsQuiet x
+Starts words (Some (line.Files said)) (Serve o) x = ⊥
+Starts words (Some (line.Serve said)) (Ended status) x = (status ≡ OutOfMemory) × IsQuiet x
+Starts words (Some (line.Serve said)) (Files o) x = ⊥
+Starts words (Some (line.Serve said)) (Serve o) x =
+    (map string_bytes o.words.items ≡ words) × IsOpened said.options.ticks (length said.listen) (length said.listen + 1) o.gateway × IsQuiet x
+
+-- ---- what it comes to when it runs
+
+-- where the words have ended already, this holds of their status
+abbrev pub IfEnded : {I O G : Type 0} → Started I O G → (Status → Type 0) → Type 0
+IfEnded (Ended status) holds = holds status
+IfEnded (Files o) holds = Unit {0}
+IfEnded (Serve o) holds = Unit {0}
+
+-- where they came to a command over files, they still do, and this holds of its files before and after
+abbrev pub IfFiles : {I O G : Type 0} → Started I O G → Started I O G → (FilesOpen I O → FilesOpen I O → Type 0) → Type 0
+IfFiles (Ended status) after holds = Unit {0}
+IfFiles (Serve o) after holds = Unit {0}
+IfFiles (Files o) (Ended status) holds = ⊥
+IfFiles (Files o) (Serve p) holds = ⊥
+IfFiles (Files o) (Files p) holds = holds o p
+
+-- where they came to a gateway, they still do, and this holds of its objects before and after
+abbrev pub IfServe : {I O G : Type 0} → Started I O G → Started I O G → (ServeOpen G → ServeOpen G → Type 0) → Type 0
+IfServe (Ended status) after holds = Unit {0}
+IfServe (Files o) after holds = Unit {0}
+IfServe (Serve o) (Ended status) holds = ⊥
+IfServe (Serve o) (Files p) holds = ⊥
+IfServe (Serve o) (Serve p) holds = holds o p

@@ -1,26 +1,15 @@
 // The objects of a line of serve.
-ghost use Rattle.std.specs.Prelude.{◌≡◌, ◌≤◌, ◌⊎◌, None, false, map, length, IfOk, IfSome};
-ghost use Rattle.std.specs.String.{string_bytes};
-ghost use Rattle.std.specs.Io.KnownBytes.{Appends};
-ghost use Rattle.command_line.specs.Lines.{fits_serve};
-ghost use Rattle.gate_os.specs.Edges.{lasting};
-ghost use Rattle.gate_notes.specs.Exchange.{GainedUnlessFault};
-ghost use Rattle.gsmgate.specs.Gateway.{AreFresh, IsOpenedAt, IsReply};
-ghost use Rattle.gate_notes.specs.Notes.{usage_line};
-ghost use Rattle.serve_runs.specs.Serve.{StatusFollows, fault_of_ends, serve_lines};
+ghost use Rattle.std.specs.Prelude.{◌≡◌, ◌≤◌, map, length, IfOk};
+ghost use Rattle.gate_os.specs.Edges.{lasting, nanos_of};
+ghost use Rattle.gsmgate.specs.Gateway.{AreFresh, AreUnused, IsLive, IsOpened, IsReply, begun_at};
 
 use crate::places::Places;
 use gate_base::OutOfMemory;
-use gate_io::{Link, Sink, Source, TickClock};
-use gate_notes::Status;
-use gate_os::{OsClock, OsSink, OsSource, UdpLink};
-use serve_runs::{Served, run_serve};
-use std::alloc::Global;
+use gate_os::{OsClock, OsSink, OsSource, Reading, UdpLink};
 use std::fs::Files;
 use std::io::Print;
 use std::net::Net;
 use std::sync::Wait;
-use std::thread::Threads;
 use std::time::Clock;
 
 /// What a line of serve runs over. Each place has a type of its own, so that no two of them can be exchanged.
@@ -49,6 +38,45 @@ pub type OsGateway<'a, R> = Gateway<
     OsClock<'a, R>,
 >;
 
+/// The files of a line of serve.
+#[derive(Drop)]
+pub struct Streams<I, O, J> {
+    /// Where return speech is read.
+    pub microphone: I,
+    /// Where speech is played.
+    pub speaker: O,
+    /// The journals, the player's first.
+    pub journals: Vec<J>,
+}
+
+// A file for each of these paths.
+fn create_all<'a, R: Files + Print + Sync + AllocGlobal>(
+    rt: &'a R,
+    paths: &[String],
+) -> Result<Vec<OsSink<'a, R>>, OutOfMemory>
+    ensures { IfOk result (λ v. length v.items ≡ length paths.now) }
+{
+    let mut sinks = Vec::new(rt.alloc());
+    for path in paths {
+        sinks.push(OsSink::create(rt, rt.alloc(), path.as_str())?)?;
+    }
+    Ok(sinks)
+}
+
+// Opens the files, each of which may take its time: the other end of a FIFO may come late.
+fn open_streams<'a, R: Files + Print + Sync + AllocGlobal>(
+    rt: &'a R,
+    places: &Places,
+) -> Result<Streams<OsSource<R>, OsSink<'a, R>, OsSink<'a, R>>, OutOfMemory>
+    ensures { IfOk result (AreUnused (length places.now.journals.items)) }
+{
+    Ok(Streams {
+        microphone: OsSource::open(rt, rt.alloc(), places.microphone.as_str())?,
+        speaker: OsSink::create(rt, rt.alloc(), places.speaker.as_str())?,
+        journals: create_all(rt, &places.journals)?,
+    })
+}
+
 // A socket for each address that is listened on.
 fn bind_all<'a, R: Net + Clock + Wait + Sync + AllocGlobal>(
     rt: &'a R,
@@ -75,82 +103,54 @@ fn open_reply<'a, R: Net + Clock + Wait + Sync + AllocGlobal>(
     links[0].answering(rt.alloc(), places.reply.as_str(), places.ticks)
 }
 
-// A file for each of these paths.
-fn create_all<'a, R: Files + Print + Sync + AllocGlobal>(
-    rt: &'a R,
-    paths: &[String],
-) -> Result<Vec<OsSink<'a, R>>, OutOfMemory>
-    ensures { IfOk result (λ v. length v.items ≡ length paths.now) }
+// Lets the lives of all links begin at this reading.
+fn begin_all<'a, R: Clock>(links: &mut Vec<UdpLink<'a, R>>, start: Reading)
+    ensures { links.new.items ≡ map (begun_at (nanos_of start)) links.old.items }
 {
-    let mut sinks = Vec::new(rt.alloc());
-    for path in paths {
-        sinks.push(OsSink::create(rt, rt.alloc(), path.as_str())?)?;
+    for link in links.iter_mut() {
+        link.begin(start);
     }
-    Ok(sinks)
 }
 
-/// Opens the sockets and the files that a line of serve names, which are one link or more. The clock starts last.
+// The gateway over files that are open: its sockets are bound, and their lives begin with its clock. It can open no file.
+fn go_live<'a, R: Net + Clock + Wait + Sync + AllocGlobal, I: Drop, O: Drop, J: Drop>(
+    rt: &'a R,
+    places: &Places,
+    streams: Streams<I, O, J>,
+) -> Result<Gateway<UdpLink<'a, R>, I, O, J, OsClock<'a, R>>, OutOfMemory>
+    requires { 1 ≤ length places.now.links.items }
+    ensures live { IfOk result (IsLive places.now.ticks (length places.now.links.items)) }
+    ensures streams { IfOk result (λ g. (g.microphone ≡ streams.microphone) × (g.speaker ≡ streams.speaker) × (g.journals ≡ streams.journals)) }
+{
+    let mut links = bind_all(rt, places)?;
+    let mut reply = open_reply(rt, &links, places)?;
+    let start = Reading::now(rt);
+    begin_all(&mut links, start);
+    reply.begin(start);
+    let Streams {
+        microphone,
+        speaker,
+        journals,
+    } = streams;
+    Ok(Gateway {
+        links,
+        reply,
+        microphone,
+        speaker,
+        journals,
+        clock: OsClock::starting(rt, start, places.ticks),
+    })
+}
+
+/// Opens what a line of serve names, which are one link or more: the files first, since each of them may take its time, and then
+/// the sockets, whose lives begin with the clock.
 pub fn open_gateway<'a, R: Net + Clock + Wait + Files + Print + Sync + AllocGlobal>(
     rt: &'a R,
     places: &Places,
 ) -> Result<OsGateway<'a, R>, OutOfMemory>
     requires { 1 ≤ length places.now.links.items }
-    ensures { IfOk result (IsOpenedAt places.now) }
+    ensures { IfOk result (IsOpened places.now.ticks (length places.now.links.items) (length places.now.journals.items)) }
 {
-    let links = bind_all(rt, places)?;
-    let reply = open_reply(rt, &links, places)?;
-    Ok(Gateway {
-        links,
-        reply,
-        microphone: OsSource::open(rt, rt.alloc(), places.microphone.as_str())?,
-        speaker: OsSink::create(rt, rt.alloc(), places.speaker.as_str())?,
-        journals: create_all(rt, &places.journals)?,
-        clock: OsClock::new(rt, places.ticks),
-    })
-}
-
-/// Does the command `serve` of the words over a gateway.
-pub fn run_gateway<
-    R: Threads + Wait + Sync,
-    P: Link + Send + Drop,
-    I: Source + Send + Drop,
-    O: Sink + Send + Drop,
-    J: Sink + Send + Drop,
-    C: TickClock + Send + Drop,
-    E: Sink,
->(
-    rt: &R,
-    alloc: Global,
-    words: &Vec<String>,
-    gateway: Gateway<P, I, O, J, C>,
-    notes: &mut E,
-) -> Served
-    ensures usage { result.status ≡ Status.Usage → fits_serve (map string_bytes words.now.items) (length gateway.links.items) (length gateway.journals.items) ≡ false }
-    ensures usage_only { fits_serve (map string_bytes words.now.items) (length gateway.links.items) (length gateway.journals.items) ≡ false → (result.status ≡ Status.Usage) ⊎ (result.status ≡ Status.OutOfMemory) }
-    ensures refused { result.status ≡ Status.Usage → GainedUnlessFault (E.given notes.old) (E.given notes.new) (E.faults notes.old) (E.faults notes.new) usage_line }
-    ensures starved { result.status ≡ Status.OutOfMemory → notes.new ≡ notes.old }
-    ensures ended { result.end ≡ None → (result.status ≡ Status.Usage) ⊎ (result.status ≡ Status.OutOfMemory) }
-    ensures status { IfSome result.end (λ e. StatusFollows (fault_of_ends e.player e.filers) result.status (Appends (E.given notes.old) (E.given notes.new) (serve_lines e.played e.filers))) }
-    ensures noted { IfSome result.end (λ e. GainedUnlessFault (E.given notes.old) (E.given notes.new) (E.faults notes.old) (E.faults notes.new) (serve_lines e.played e.filers)) }
-{
-    let Gateway {
-        mut links,
-        mut reply,
-        mut microphone,
-        mut speaker,
-        mut journals,
-        mut clock,
-    } = gateway;
-    run_serve(
-        rt,
-        alloc,
-        words,
-        &mut links,
-        &mut reply,
-        &mut microphone,
-        &mut speaker,
-        &mut journals,
-        notes,
-        &mut clock,
-    )
+    let streams = open_streams(rt, places)?;
+    go_live(rt, places, streams)
 }

@@ -107,18 +107,21 @@ fn each_object_of_a_line_stands_at_its_place(rt: HostRuntime) -> Result<(), Fail
         "127.0.0.1:0 astray",
     )?;
     let mut notes = no_notes(rt.alloc())?;
-    let Started::Open(mut gateway) = start(&rt, &words, &mut notes) else {
+    let Started::Serve(mut open) = start(&rt, Ok(words), &mut notes) else {
         return Err(Fail::from("no gateway"));
     };
-    assert_eq!(rt; answer_at(&mut gateway.links, 0), Some(Ok(Received::Idle)));
-    assert_eq!(rt; answer_at(&mut gateway.links, 1), Some(Err(Failed)));
-    assert_eq!(rt; gateway.reply.send(b"spoken"), Ok(()));
+    assert_eq!(rt;
+        answer_at(&mut open.gateway.links, 0),
+        Some(Ok(Received::Idle))
+    );
+    assert_eq!(rt; answer_at(&mut open.gateway.links, 1), Some(Err(Failed)));
+    assert_eq!(rt; open.gateway.reply.send(b"spoken"), Ok(()));
     assert!(rt; hears(&socket, b"spoken")?);
-    assert!(rt; begins(&mut gateway.microphone, b"said"));
-    assert_eq!(rt; gateway.speaker.give(b"heard"), Ok(()));
-    assert!(rt; gives_at(&mut gateway.journals, 0, b"played"));
-    assert!(rt; gives_at(&mut gateway.journals, 1, b"first"));
-    assert!(rt; gives_at(&mut gateway.journals, 2, b"second"));
+    assert!(rt; begins(&mut open.gateway.microphone, b"said"));
+    assert_eq!(rt; open.gateway.speaker.give(b"heard"), Ok(()));
+    assert!(rt; gives_at(&mut open.gateway.journals, 0, b"played"));
+    assert!(rt; gives_at(&mut open.gateway.journals, 1, b"first"));
+    assert!(rt; gives_at(&mut open.gateway.journals, 2, b"second"));
     assert!(rt; had(&rt, "place.said", b"said")? && had(&rt, "place.heard", b"heard")?);
     assert!(rt; had(&rt, "place.player", b"played")?);
     assert!(rt; had(&rt, "place.0", b"first")? && had(&rt, "place.1", b"second")?);
@@ -134,10 +137,10 @@ fn a_reply_by_the_later_protocol_is_sent_by_it(rt: HostRuntime) -> Result<(), Fa
     let (socket, there) = peer(&rt, "[::1]:0")?;
     let words = serve_words(rt.alloc(), "later", 1, there.as_str(), "127.0.0.1:0")?;
     let mut notes = no_notes(rt.alloc())?;
-    let Started::Open(mut gateway) = start(&rt, &words, &mut notes) else {
+    let Started::Serve(mut open) = start(&rt, Ok(words), &mut notes) else {
         return Err(Fail::from("no gateway"));
     };
-    assert_eq!(rt; gateway.reply.send(b"spoken"), Ok(()));
+    assert_eq!(rt; open.gateway.reply.send(b"spoken"), Ok(()));
     assert!(rt; hears(&socket, b"spoken")?);
     for path in ["later.heard", "later.player", "later.0"] {
         fs::remove_file(&rt, path)?;
@@ -152,10 +155,10 @@ fn return_speech_leaves_from_the_first_socket(rt: HostRuntime) -> Result<(), Fai
     let listen = format!(in rt.alloc(); "{here} 127.0.0.1:0")?;
     let words = serve_words(rt.alloc(), "first", 500, there.as_str(), listen.as_str())?;
     let mut notes = no_notes(rt.alloc())?;
-    let Started::Open(mut gateway) = start(&rt, &words, &mut notes) else {
+    let Started::Serve(mut open) = start(&rt, Ok(words), &mut notes) else {
         return Err(Fail::from("no gateway"));
     };
-    assert_eq!(rt; gateway.reply.send(b"spoken"), Ok(()));
+    assert_eq!(rt; open.gateway.reply.send(b"spoken"), Ok(()));
     assert!(rt; hears_from(&rt, &socket, here.as_str())?);
     for path in ["first.heard", "first.player", "first.0", "first.1"] {
         fs::remove_file(&rt, path)?;
@@ -169,17 +172,23 @@ fn sockets_live_a_second_longer_than_their_ticks(rt: HostRuntime) -> Result<(), 
     let short = serve_words(alloc, "short", 10, "127.0.0.1:9", "127.0.0.1:0")?;
     let long = serve_words(alloc, "long", 1000, "127.0.0.1:9", "127.0.0.1:0")?;
     let mut notes = no_notes(alloc)?;
-    let (Started::Open(mut short), Started::Open(mut long)) = (
-        start(&rt, &short, &mut notes),
-        start(&rt, &long, &mut notes),
+    let (Started::Serve(mut short), Started::Serve(mut long)) = (
+        start(&rt, Ok(short), &mut notes),
+        start(&rt, Ok(long), &mut notes),
     ) else {
         return Err(Fail::from("no gateway"));
     };
     thread::sleep(&rt, Duration::from_millis(1300));
-    assert_eq!(rt; answer_at(&mut short.links, 0), Some(Ok(Received::Ended)));
-    assert_eq!(rt; answer(&mut short.reply), Ok(Received::Ended));
-    assert_eq!(rt; answer_at(&mut long.links, 0), Some(Ok(Received::Idle)));
-    assert_eq!(rt; answer(&mut long.reply), Ok(Received::Idle));
+    assert_eq!(rt;
+        answer_at(&mut short.gateway.links, 0),
+        Some(Ok(Received::Ended))
+    );
+    assert_eq!(rt; answer(&mut short.gateway.reply), Ok(Received::Ended));
+    assert_eq!(rt;
+        answer_at(&mut long.gateway.links, 0),
+        Some(Ok(Received::Idle))
+    );
+    assert_eq!(rt; answer(&mut long.gateway.reply), Ok(Received::Idle));
     for path in [
         "short.heard",
         "short.player",
@@ -203,11 +212,9 @@ fn a_line_runs_over_sockets_and_files(rt: HostRuntime) -> Result<(), Fail> {
     fs::write(&rt, "line.said", [0u8; 320].as_slice())?;
     let words = serve_words(rt.alloc(), "line", 3, there.as_str(), "127.0.0.1:0")?;
     let mut notes = no_notes(rt.alloc())?;
-    let started = start(&rt, &words, &mut notes);
-    assert_eq!(rt;
-        run_on(&rt, rt.alloc(), &words, started, &mut notes),
-        Status::Done
-    );
+    let mut started = start(&rt, Ok(words), &mut notes);
+    let served = run_on(&rt, rt.alloc(), &mut started, &mut notes);
+    assert_eq!(rt; served.status, Status::Done);
     assert!(rt; noted(&notes, SILENT));
     assert!(rt; had(&rt, "line.said", &[0; 320])? && had(&rt, "line.heard", &[0; 960])?);
     assert!(rt;
@@ -224,6 +231,31 @@ fn a_line_runs_over_sockets_and_files(rt: HostRuntime) -> Result<(), Fail> {
 }
 
 #[test]
+fn a_socket_that_cannot_be_bound_is_a_fault_of_its_link(rt: HostRuntime) -> Result<(), Fail> {
+    fs::write(&rt, "unbound.said", [0u8; 320].as_slice())?;
+    let words = serve_words(rt.alloc(), "unbound", 3, "127.0.0.1:9", "astray")?;
+    let mut notes = no_notes(rt.alloc())?;
+    let mut started = start(&rt, Ok(words), &mut notes);
+    let served = run_on(&rt, rt.alloc(), &mut started, &mut notes);
+    assert_eq!(rt; served.status, Status::LinkFault);
+    assert!(rt; had(&rt, "unbound.said", &[0; 320])? && had(&rt, "unbound.heard", &[0; 960])?);
+    for path in ["unbound.player", "unbound.0"] {
+        fs::remove_file(&rt, path)?;
+    }
+    Ok(())
+}
+
+#[test]
+fn words_that_found_no_memory_end_so(rt: HostRuntime) -> Result<(), Fail> {
+    let mut notes = no_notes(rt.alloc())?;
+    let mut started = start(&rt, Err(AllocError), &mut notes);
+    let served = run_on(&rt, rt.alloc(), &mut started, &mut notes);
+    assert_eq!(rt; served.status, Status::OutOfMemory);
+    assert!(rt; noted(&notes, ""));
+    Ok(())
+}
+
+#[test]
 fn journals_are_judged_in_the_order_of_the_words(rt: HostRuntime) -> Result<(), Fail> {
     let alloc = rt.alloc();
     let player = octets_of(alloc, "journal 02060003 13 zeros FF")?;
@@ -234,7 +266,9 @@ fn journals_are_judged_in_the_order_of_the_words(rt: HostRuntime) -> Result<(), 
     fs::write(&rt, "judged.1", second.as_slice())?;
     let words = words_of(alloc, "verify judged.order judged.player judged.0 judged.1")?;
     let mut notes = no_notes(alloc)?;
-    assert!(rt; matches!(start(&rt, &words, &mut notes), Started::Ended(Status::Done)));
+    let mut started = start(&rt, Ok(words), &mut notes);
+    let served = run_on(&rt, rt.alloc(), &mut started, &mut notes);
+    assert_eq!(rt; served.status, Status::Done);
     assert!(rt; noted(&notes, "legal 3\n"));
     assert!(rt; had(&rt, "judged.order", b"0\n1\np\n")? && had(&rt, "judged.player", &player)?);
     assert!(rt; had(&rt, "judged.0", &first)? && had(&rt, "judged.1", &second)?);
@@ -245,16 +279,15 @@ fn journals_are_judged_in_the_order_of_the_words(rt: HostRuntime) -> Result<(), 
 fn words_that_name_nothing_end_at_once(rt: HostRuntime) -> Result<(), Fail> {
     let none = words_of(rt.alloc(), "simulat a b")?;
     let mut notes = no_notes(rt.alloc())?;
-    assert!(rt; matches!(start(&rt, &none, &mut notes), Started::Ended(Status::Usage)));
+    let mut started = start(&rt, Ok(none), &mut notes);
+    let served = run_on(&rt, rt.alloc(), &mut started, &mut notes);
+    assert_eq!(rt; served.status, Status::Usage);
     assert!(rt; noted(&notes, "usage\n"));
     let astray = words_of(rt.alloc(), "decode no-such-file unread.speech")?;
     let mut notes = no_notes(rt.alloc())?;
-    assert!(rt;
-        matches!(
-            start(&rt, &astray, &mut notes),
-            Started::Ended(Status::ReadFault)
-        )
-    );
+    let mut started = start(&rt, Ok(astray), &mut notes);
+    let served = run_on(&rt, rt.alloc(), &mut started, &mut notes);
+    assert_eq!(rt; served.status, Status::ReadFault);
     assert!(rt; noted(&notes, ""));
     assert!(rt; had(&rt, "unread.speech", b"")?);
     Ok(())

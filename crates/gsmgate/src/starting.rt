@@ -1,19 +1,28 @@
-// What a line of the program comes to before any thread of its own runs.
-ghost use Rattle.std.specs.Prelude.{◌≡◌, None, Some, map, length, IfOk, IsErr};
+// What a line of the program comes to: its objects are opened, and then it runs over them.
+ghost use Rattle.std.specs.Prelude.{◌≡◌, ◌≤◌, ◌⊎◌, ◌↔◌, ℕ, Some, None, true, false, map, length, IsErr, IfOk, IfSome};
 ghost use Rattle.std.specs.String.{string_bytes};
-ghost use Rattle.command_line.specs.Said.{FilesSaid};
-ghost use Rattle.command_line.specs.Lines.{line_of};
-ghost use Rattle.command_line.specs.declared.line.Line.TheVariants.{Files};
-ghost use Rattle.gsmgate.specs.Gateway.{IsDone, IsRefused, IsRunOn, Starts, noting};
+ghost use Rattle.std.specs.Io.KnownBytes.{Appends};
+ghost use Rattle.gate_base.specs.Faults.{Rose};
+ghost use Rattle.command_line.specs.Said.{FilesSaid, ServeSaid};
+ghost use Rattle.command_line.specs.Lines.{fits_files, fits_serve, line_of};
+ghost use Rattle.command_line.specs.declared.line.Line.TheVariants.{Files, Serve};
+ghost use Rattle.line_run.specs.Line.{LineRan};
+ghost use Rattle.line_run.specs.Seen.{clock_seen, link_seen, player_seen, sink_seen, source_seen};
+ghost use Rattle.gate_notes.specs.Exchange.{GainedUnlessFault, NoneFell, SomeRose};
+ghost use Rattle.gate_notes.specs.Notes.{usage_line};
+ghost use Rattle.serve_runs.specs.Serve.{StatusFollows, fault_of_ends, line_options, serve_lines};
+ghost use Rattle.gsmgate.specs.Commands.{CompletesAs, EndsAs};
+ghost use Rattle.gsmgate.specs.Gateway.{AreOpen, IfEnded, IfFiles, IfServe, IsOpenedAt, Starts, giving, noting};
 
-use crate::gateway::{Gateway, OsGateway, open_gateway, run_gateway};
+use crate::gateway::{Gateway, OsGateway, open_gateway};
 use crate::offline::run_offline;
 use crate::places::{Places, addresses};
 use gate_base::OutOfMemory;
 use gate_io::{Link, Sink, Source, TickClock};
-use gate_notes::Status;
+use gate_notes::{Status, refuse_words};
 use gate_os::{OsSink, OsSource};
-use std::alloc::Global;
+use serve_runs::{Served, run_serve};
+use std::alloc::{AllocError, Global};
 use std::fs::Files;
 use std::io::Print;
 use std::net::Net;
@@ -21,93 +30,198 @@ use std::sync::Wait;
 use std::thread::Threads;
 use std::time::Clock;
 
-/// How far the words have come.
+/// The words of a command over files, and its files.
 #[derive(Drop)]
-pub enum Started<G> {
-    /// The command has ended so.
-    Ended(Status),
-    /// The words are a line of serve, over this gateway.
-    Open(G),
+pub struct FilesOpen<I, O> {
+    /// The words of the line.
+    pub words: Vec<String>,
+    /// What is read, in the order of the words.
+    pub inputs: Vec<I>,
+    /// What is written.
+    pub output: O,
 }
 
-// Does a command over the files that it names.
-fn run_files<R: Files + Print + Sync + AllocGlobal, E: Sink>(
-    rt: &R,
-    words: &Vec<String>,
+/// The words of a line of serve, and its objects.
+#[derive(Drop)]
+pub struct ServeOpen<G> {
+    /// The words of the line.
+    pub words: Vec<String>,
+    /// Its objects.
+    pub gateway: G,
+}
+
+/// How far the words have come.
+#[derive(Drop)]
+pub enum Started<I, O, G> {
+    /// They have ended so.
+    Ended(Status),
+    /// A command over files is to run.
+    Files(FilesOpen<I, O>),
+    /// A gateway is to run.
+    Serve(ServeOpen<G>),
+}
+
+/// What the words come to over the system's files, sockets and clock.
+pub type OsStarted<'a, R> = Started<OsSource<R>, OsSink<'a, R>, OsGateway<'a, R>>;
+
+// The files of a command over files.
+fn open_files<'a, R: Files + Print + Sync + AllocGlobal>(
+    rt: &'a R,
+    words: Vec<String>,
     places: &Places,
-    notes: &mut E,
-) -> Result<Status, OutOfMemory>
-    ensures done { (said : FilesSaid) → line_of (map string_bytes words.now.items) ≡ Some (Files said) → length said.inputs ≡ length places.now.inputs.items
-        → IfOk result (λ s. IsDone said s (noting (E.given notes.old) (E.given notes.new) (E.faults notes.old) (E.faults notes.new))) }
-    ensures starved { IsErr result → notes.new ≡ notes.old }
+) -> Result<FilesOpen<OsSource<R>, OsSink<'a, R>>, OutOfMemory>
+    ensures { IfOk result (AreOpen (map string_bytes words.items) (length places.now.inputs.items)) }
 {
     let mut inputs = Vec::new(rt.alloc());
     for path in &places.inputs {
         inputs.push(OsSource::open(rt, rt.alloc(), path.as_str())?)?;
     }
-    let mut output = OsSink::create(rt, rt.alloc(), places.output.as_str())?;
-    Ok(run_offline(rt.alloc(), words, &mut inputs, &mut output, notes))
+    let output = OsSink::create(rt, rt.alloc(), places.output.as_str())?;
+    Ok(FilesOpen {
+        words,
+        inputs,
+        output,
+    })
 }
 
-// Words that are no line: nothing is opened, and the notes say so.
-fn refuse<R: Files + Print + Sync + AllocGlobal, E: Sink>(
-    rt: &R,
-    words: &Vec<String>,
-    notes: &mut E,
-) -> Status
-    ensures { line_of (map string_bytes words.now.items) ≡ None → IsRefused result (noting (E.given notes.old) (E.given notes.new) (E.faults notes.old) (E.faults notes.new)) }
-{
-    let mut inputs: Vec<OsSource<R>> = Vec::new(rt.alloc());
-    let mut output = OsSink::standard(rt);
-    run_offline(rt.alloc(), words, &mut inputs, &mut output, notes)
-}
-
-/// Does a command over the files that the words name, or opens the gateway of a line of serve. The notes get what the
-/// command has to say, or the line `usage` where the words are no line.
-pub fn start<'a, R: Net + Clock + Wait + Files + Print + Sync + AllocGlobal, E: Sink>(
+// What the words name at these places.
+fn open_places<'a, R: Net + Clock + Wait + Files + Print + Sync + AllocGlobal>(
     rt: &'a R,
-    words: &Vec<String>,
-    notes: &mut E,
-) -> Started<OsGateway<'a, R>>
-    ensures { Starts (line_of (map string_bytes words.now.items)) result (noting (E.given notes.old) (E.given notes.new) (E.faults notes.old) (E.faults notes.new)) }
+    words: Vec<String>,
+    places: &Places,
+) -> Result<OsStarted<'a, R>, OutOfMemory>
+    requires { places.now.serve ≡ true → 1 ≤ length places.now.links.items }
+    ensures { IfOk result (IsOpenedAt (map string_bytes words.items) places.now) }
 {
-    let places = match addresses(rt.alloc(), words) {
+    if places.serve {
+        let gateway = open_gateway(rt, places)?;
+        return Ok(Started::Serve(ServeOpen { words, gateway }));
+    }
+    Ok(Started::Files(open_files(rt, words, places)?))
+}
+
+// Opens what these words name.
+fn open_words<'a, R: Net + Clock + Wait + Files + Print + Sync + AllocGlobal, E: Sink>(
+    rt: &'a R,
+    words: Vec<String>,
+    notes: &mut E,
+) -> OsStarted<'a, R>
+    ensures { Starts (map string_bytes words.items) (line_of (map string_bytes words.items)) result (noting (E.given notes.old) (E.given notes.new) (E.faults notes.old) (E.faults notes.new)) }
+{
+    let places = match addresses(rt.alloc(), &words) {
         Ok(places) => places,
-        Err(Status::Usage) => return Started::Ended(refuse(rt, words, notes)),
+        Err(Status::Usage) => return Started::Ended(refuse_words(notes)),
         Err(status) => return Started::Ended(status),
     };
-    if places.serve {
-        return match open_gateway(rt, &places) {
-            Ok(gateway) => Started::Open(gateway),
-            Err(OutOfMemory) => Started::Ended(Status::OutOfMemory),
-        };
-    }
-    match run_files(rt, words, &places, notes) {
-        Ok(status) => Started::Ended(status),
+    match open_places(rt, words, &places) {
+        Ok(started) => started,
         Err(OutOfMemory) => Started::Ended(Status::OutOfMemory),
     }
 }
 
-/// Runs what was opened, and answers how the command ended. The notes of a gateway are those of its run.
+/// Opens what the words name: the files of a command over files, or the gateway of a line of serve. Words that are no line are
+/// refused by the line `usage` to the notes. Where there was no memory for the words, or there is none for what they name, that
+/// is how they end.
+pub fn start<'a, R: Net + Clock + Wait + Files + Print + Sync + AllocGlobal, E: Sink>(
+    rt: &'a R,
+    words: Result<Vec<String>, AllocError>,
+    notes: &mut E,
+) -> OsStarted<'a, R>
+    ensures unread { IsErr words → (result ≡ Started.Ended Status.OutOfMemory) × (notes.new ≡ notes.old) }
+    ensures read { IfOk words (λ w. Starts (map string_bytes w.items) (line_of (map string_bytes w.items)) result (noting (E.given notes.old) (E.given notes.new) (E.faults notes.old) (E.faults notes.new))) }
+{
+    match words {
+        Ok(words) => open_words(rt, words, notes),
+        Err(_) => Started::Ended(Status::OutOfMemory),
+    }
+}
+
+// Nobody ran on threads.
+fn ended(status: Status) -> Served
+    ensures { result ≡ record { status = status; end = None } }
+{
+    Served { status, end: None }
+}
+
+/// Runs what was opened, and answers how it ended: `run_offline` over the files, or `run_serve` over the gateway.
 pub fn run_on<
     R: Threads + Wait + Sync,
-    P: Link + Send + Drop,
-    I: Source + Send + Drop,
-    O: Sink + Send + Drop,
-    J: Sink + Send + Drop,
-    C: TickClock + Send + Drop,
+    I: Source,
+    O: Sink,
+    P: Link + Send,
+    M: Source + Send,
+    S: Sink + Send,
+    J: Sink + Send,
+    C: TickClock + Send,
     E: Sink,
 >(
     rt: &R,
     alloc: Global,
-    words: &Vec<String>,
-    started: Started<Gateway<P, I, O, J, C>>,
+    started: &mut Started<I, O, Gateway<P, M, S, J, C>>,
     notes: &mut E,
-) -> Status
-    ensures { IsRunOn (map string_bytes words.now.items) started result (noting (E.given notes.old) (E.given notes.new) (E.faults notes.old) (E.faults notes.new)) }
+) -> Served
+    ensures ended { IfEnded started.old (λ s. (result ≡ record { status = s; end = None }) × (notes.new ≡ notes.old)) }
+
+    ensures files_end { IfFiles started.old started.new (λ o p. result.end ≡ None) }
+    ensures files_usage { IfFiles started.old started.new (λ o p. result.status ≡ Status.Usage → fits_files (map string_bytes o.words.items) (length o.inputs.items) ≡ false) }
+    ensures files_usage_only { IfFiles started.old started.new (λ o p. fits_files (map string_bytes o.words.items) (length o.inputs.items) ≡ false → (result.status ≡ Status.Usage) ⊎ (result.status ≡ Status.OutOfMemory)) }
+    ensures files_untouched { IfFiles started.old started.new (λ o p. result.status ≡ Status.Usage → (p.inputs.items ≡ o.inputs.items) × (p.output ≡ o.output)
+        × GainedUnlessFault (E.given notes.old) (E.given notes.new) (E.faults notes.old) (E.faults notes.new) usage_line) }
+    ensures files_unread { IfFiles started.old started.new (λ o p. fits_files (map string_bytes o.words.items) (length o.inputs.items) ≡ false → result.status ≡ Status.OutOfMemory
+        → (p.inputs.items ≡ o.inputs.items) × (p.output ≡ o.output) × (notes.new ≡ notes.old)) }
+    ensures files_ran { IfFiles started.old started.new (λ o p. (said : FilesSaid) → line_of (map string_bytes o.words.items) ≡ Some (Files said) → fits_files (map string_bytes o.words.items) (length o.inputs.items) ≡ true
+        → ((result.status ≡ Status.OutOfMemory) × (p.inputs.items ≡ o.inputs.items) × (p.output ≡ o.output) × (notes.new ≡ notes.old))
+        ⊎ (EndsAs said.command result.status (map I.left o.inputs.items) (giving (O.given o.output) (O.given p.output) (noting (E.given notes.old) (E.given notes.new) (E.faults notes.old) (E.faults notes.new)))
+        × CompletesAs said.command result.status (map I.left o.inputs.items) (SomeRose (map I.faults o.inputs.items) (map I.faults p.inputs.items) ⊎ Rose (O.faults o.output) (O.faults p.output) ⊎ Rose (E.faults notes.old) (E.faults notes.new)))) }
+    ensures files_many { IfFiles started.old started.new (λ o p. length p.inputs.items ≡ length o.inputs.items) }
+    ensures files_read { IfFiles started.old started.new (λ o p. result.status ≡ Status.ReadFault → SomeRose (map I.faults o.inputs.items) (map I.faults p.inputs.items)) }
+    ensures files_write { IfFiles started.old started.new (λ o p. result.status ≡ Status.WriteFault → Rose (O.faults o.output) (O.faults p.output) ⊎ Rose (E.faults notes.old) (E.faults notes.new)) }
+    ensures files_later { IfFiles started.old started.new (λ o p. NoneFell (map I.faults o.inputs.items) (map I.faults p.inputs.items) × (O.faults o.output ≤ O.faults p.output) × (E.faults notes.old ≤ E.faults notes.new)) }
+    ensures files_kin { IfFiles started.old started.new (λ o p. O.kin o.output p.output × E.kin notes.old notes.new) }
+
+    ensures serve_usage { IfServe started.old started.new (λ o p. result.status ≡ Status.Usage → fits_serve (map string_bytes o.words.items) (length o.gateway.links.items) (length o.gateway.journals.items) ≡ false) }
+    ensures serve_usage_only { IfServe started.old started.new (λ o p. fits_serve (map string_bytes o.words.items) (length o.gateway.links.items) (length o.gateway.journals.items) ≡ false → (result.status ≡ Status.Usage) ⊎ (result.status ≡ Status.OutOfMemory)) }
+    ensures serve_no_end { IfServe started.old started.new (λ o p. (result.end ≡ None) ↔ ((result.status ≡ Status.Usage) ⊎ (result.status ≡ Status.OutOfMemory))) }
+    ensures serve_untouched { IfServe started.old started.new (λ o p. result.end ≡ None → p.gateway ≡ o.gateway) }
+    ensures serve_refused { IfServe started.old started.new (λ o p. result.status ≡ Status.Usage → GainedUnlessFault (E.given notes.old) (E.given notes.new) (E.faults notes.old) (E.faults notes.new) usage_line) }
+    ensures serve_starved { IfServe started.old started.new (λ o p. result.status ≡ Status.OutOfMemory → notes.new ≡ notes.old) }
+    ensures serve_ran { IfServe started.old started.new (λ o p. IfSome result.end (λ e. (said : ServeSaid) × (line_of (map string_bytes o.words.items) ≡ Some (Serve said))
+        × LineRan (record { filers = length said.listen; options = line_options said.options }) (link_seen P.log P.ended P.faults) (sink_seen J.given J.faults) o.gateway.links.items o.gateway.journals.items p.gateway.links.items p.gateway.journals.items
+        (player_seen (clock_seen C.ticks C.ended o.gateway.clock) (sink_seen S.given S.faults o.gateway.speaker) (source_seen M.left M.faults o.gateway.microphone) (link_seen P.log P.ended P.faults o.gateway.reply))
+        (player_seen (clock_seen C.ticks C.ended p.gateway.clock) (sink_seen S.given S.faults p.gateway.speaker) (source_seen M.left M.faults p.gateway.microphone) (link_seen P.log P.ended P.faults p.gateway.reply))
+        e.player e.played e.filers e.left)) }
+    ensures serve_status { IfServe started.old started.new (λ o p. IfSome result.end (λ e. StatusFollows (fault_of_ends e.player e.filers) result.status (Appends (E.given notes.old) (E.given notes.new) (serve_lines e.played e.filers)))) }
+    ensures serve_noted { IfServe started.old started.new (λ o p. IfSome result.end (λ e. GainedUnlessFault (E.given notes.old) (E.given notes.new) (E.faults notes.old) (E.faults notes.new) (serve_lines e.played e.filers))) }
+    ensures serve_read { IfServe started.old started.new (λ o p. result.status ≡ Status.ReadFault → Rose (M.faults o.gateway.microphone) (M.faults p.gateway.microphone)) }
+    ensures serve_write { IfServe started.old started.new (λ o p. result.status ≡ Status.WriteFault → Rose (S.faults o.gateway.speaker) (S.faults p.gateway.speaker) ⊎ SomeRose (map J.faults o.gateway.journals.items) (map J.faults p.gateway.journals.items) ⊎ Rose (E.faults notes.old) (E.faults notes.new)) }
+    ensures serve_link { IfServe started.old started.new (λ o p. result.status ≡ Status.LinkFault → SomeRose (map P.faults o.gateway.links.items) (map P.faults p.gateway.links.items) ⊎ Rose (P.faults o.gateway.reply) (P.faults p.gateway.reply)) }
+    ensures serve_complete { IfServe started.old started.new (λ o p. fits_serve (map string_bytes o.words.items) (length o.gateway.links.items) (length o.gateway.journals.items) ≡ true
+        → ¬ (Rose (M.faults o.gateway.microphone) (M.faults p.gateway.microphone) ⊎ Rose (S.faults o.gateway.speaker) (S.faults p.gateway.speaker) ⊎ SomeRose (map J.faults o.gateway.journals.items) (map J.faults p.gateway.journals.items)
+        ⊎ Rose (E.faults notes.old) (E.faults notes.new) ⊎ SomeRose (map P.faults o.gateway.links.items) (map P.faults p.gateway.links.items) ⊎ Rose (P.faults o.gateway.reply) (P.faults p.gateway.reply))
+        → (result.status ≡ Status.Done) ⊎ (result.status ≡ Status.OutOfMemory)) }
+    ensures serve_later { IfServe started.old started.new (λ o p. E.faults notes.old ≤ E.faults notes.new) }
+    ensures serve_kin { IfServe started.old started.new (λ o p. S.kin o.gateway.speaker p.gateway.speaker × E.kin notes.old notes.new) }
 {
     match started {
-        Started::Ended(status) => status,
-        Started::Open(gateway) => run_gateway(rt, alloc, words, gateway, notes).status,
+        Started::Ended(status) => ended(*status),
+        Started::Files(open) => ended(run_offline(
+            alloc,
+            &open.words,
+            &mut open.inputs,
+            &mut open.output,
+            notes,
+        )),
+        Started::Serve(open) => run_serve(
+            rt,
+            alloc,
+            &open.words,
+            &mut open.gateway.links,
+            &mut open.gateway.reply,
+            &mut open.gateway.microphone,
+            &mut open.gateway.speaker,
+            &mut open.gateway.journals,
+            notes,
+            &mut open.gateway.clock,
+        ),
     }
 }

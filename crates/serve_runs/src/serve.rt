@@ -127,6 +127,7 @@ pub fn run_serve<
         → ¬ (Rose (I.faults microphone.old) (I.faults microphone.new) ⊎ Rose (O.faults speaker.old) (O.faults speaker.new) ⊎ SomeRose (map J.faults journals.old.items) (map J.faults journals.new.items)
         ⊎ Rose (E.faults notes.old) (E.faults notes.new) ⊎ SomeRose (map P.faults links.old.items) (map P.faults links.new.items) ⊎ Rose (P.faults reply.old) (P.faults reply.new))
         → (result.status ≡ Status.Done) ⊎ (result.status ≡ Status.OutOfMemory) }
+    ensures later { E.faults notes.old ≤ E.faults notes.new }
     ensures kin { O.kin speaker.old speaker.new × E.kin notes.old notes.new }
 {
     let line = match line_for(alloc, words, links.len(), journals.len()) {
