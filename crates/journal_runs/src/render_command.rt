@@ -2,7 +2,7 @@
 ghost use Rattle.std.specs.Prelude.{◌≡◌, ◌≤◌, ◌⊎◌};
 ghost use Rattle.gate_base.specs.Faults.{Rose};
 ghost use Rattle.gate_notes.specs.Exchange.{Exchange};
-ghost use Rattle.journal_runs.specs.Render.{Completes, Ends};
+ghost use Rattle.journal_runs.specs.Render.{Completes, Ends, StopsAt};
 
 use gate_io::{Failed, Sink, Source};
 use gate_notes::{Status, give_plays, note_fault};
@@ -27,6 +27,15 @@ pub fn render<I: Source, O: Sink, E: Sink>(
       noted = E.faults notes.old;
       noted_now = E.faults notes.new;
     } in Ends seed result x }
+    ensures stops { let x : Exchange = record {
+      input = I.left input.old;
+      output = O.given output.old;
+      output_now = O.given output.new;
+      notes = E.given notes.old;
+      notes_now = E.given notes.new;
+      noted = E.faults notes.old;
+      noted_now = E.faults notes.new;
+    } in StopsAt seed result x (I.left input.new) }
     ensures later { (I.faults input.old ≤ I.faults input.new) × (O.faults output.old ≤ O.faults output.new) × (E.faults notes.old ≤ E.faults notes.new) }
     ensures read { result ≡ Status.ReadFault → Rose (I.faults input.old) (I.faults input.new) }
     ensures write { result ≡ Status.WriteFault → Rose (O.faults output.old) (O.faults output.new) ⊎ Rose (E.faults notes.old) (E.faults notes.new) }
