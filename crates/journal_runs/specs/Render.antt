@@ -3,7 +3,7 @@ use Rattle.std.specs.Prelude.{ℕ, ◌≡◌, ◌⊎◌, List, [], Option, Some}
 use Rattle.recorder.specs.declared.fault.RecordFault.{RecordFault}
 use Rattle.recorder.specs.declared.tally.PlayTally.{PlayTally}
 use Rattle.recorder.specs.Journals.{IsPlayerJournal, PlayerRecord}
-use Rattle.replay_check.specs.Render.{Renders, Stops}
+use Rattle.replay_check.specs.Render.{Renders, Stops, StopsReading}
 use Rattle.replay_check.specs.declared.rendering.RenderEnd.{RenderEnd}
 use Rattle.replay_check.specs.declared.rendering.RenderEnd.TheVariants as ends
 use Rattle.gate_notes.specs.Exchange.{Exchange, Noted, NotedPart, NotedUnlessFault}
@@ -34,8 +34,8 @@ Completes status input failed = (octets : List ℕ) (j : PlayerRecord) → input
 -- and a front of what that one plays; where that of the notes failed, all.
 abbrev pub StopsAt : List ℕ → Status → Exchange → Option (List ℕ) → Type 0
 StopsAt seed Done x left = Unit {0}
-StopsAt seed Input x left = (f : RecordFault) × Stops seed (ends.Refused f) x.input left x.output x.output_now
-StopsAt seed ReadFault x left = Stops seed ends.ReadFault x.input left x.output x.output_now
+StopsAt seed Input x left = StopsReading seed x.input left x.output x.output_now
+StopsAt seed ReadFault x left = StopsReading seed x.input left x.output x.output_now
 StopsAt seed WriteFault x left = Stops seed ends.WriteFault x.input left x.output x.output_now ⊎ ((tally : PlayTally) × Played seed (ends.Done tally) x × NotedPart x (play_line tally))
 StopsAt seed OutOfMemory x left = Unit {0}
 StopsAt seed Usage x left = Unit {0}

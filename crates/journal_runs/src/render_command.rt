@@ -11,7 +11,8 @@ use replay_check::RenderEnd;
 /// Plays a player's journal by a voice of this seed: the output gets 320 octets for each beat of 20 ms, and the notes
 /// what the beats came to.
 ///
-/// It takes no memory. A fault ends the run there, and what was given stays.
+/// It takes no memory. A fault ends the run there, and what was given stays: the speech of all events that were read,
+/// and where a give of speech failed that of all but the last, and a front of that.
 pub fn render<I: Source, O: Sink, E: Sink>(
     seed: [u8; 32],
     input: &mut I,

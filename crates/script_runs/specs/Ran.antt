@@ -58,6 +58,10 @@ HasCounted (Ok run) h turns =
     (run.played ≡ play_tally (flat_map call_items (calls_of h.filers (history_of turns)))) × (run.filed ≡ run_tally (ends_of turns) (flat_map call_replies (calls (history_of turns))))
 HasCounted (Err stop) h turns = Unit {0}
 
+-- a playback has gone on by the player's calls in these turns, which gave this text
+abbrev pub Plays : Heading → List Turn → Playback → Playback → List ℕ → Type 0
+Plays h turns before after text = GoesOn (flat_map call_text (calls_of h.filers (history_of turns))) (flat_map call_items (calls_of h.filers (history_of turns))) before after text
+
 -- the events were read and came to these turns, and what they give was given
 pub record Ran (h : Heading) (playback playback_now : Playback) (input before now notes notes_now : Option (List ℕ)) (result : Result Run Stop) (events : List ScriptEvent) (turns : List Turn) : Type 0 where
   pub fit : AllByRecursion (EventFits h) events
@@ -67,7 +71,7 @@ pub record Ran (h : Heading) (playback playback_now : Playback) (input before no
   pub legal : IsLegal (2 ^ h.g) opening_machine (history_of turns)
   pub text : IfSome input (λ octets. (rest : List ℕ) × (octets ≡ flat_map event_text events ++ rest) × Follows result h events rest)
   pub played : List ℕ
-  pub goes_on : GoesOn (flat_map call_text (calls_of h.filers (history_of turns))) (flat_map call_items (calls_of h.filers (history_of turns))) playback playback_now played
+  pub goes_on : Plays h turns playback playback_now played
   pub given : Has result before now played
   pub noted : Has result notes notes_now (run_lines turns)
   pub counted : HasCounted result h turns
@@ -83,8 +87,8 @@ pub record Breaks (h : Heading) (playback playback_now : Playback) (input left b
   pub middle : Playback
   pub played : List ℕ
   pub more : List ℕ
-  pub goes : GoesOn (flat_map call_text (calls_of h.filers (history_of turns))) (flat_map call_items (calls_of h.filers (history_of turns))) playback middle played
-  pub goes_on : GoesOn (flat_map call_text (calls_of h.filers (history_of (turns ++ turn ∷ [])))) (flat_map call_items (calls_of h.filers (history_of (turns ++ turn ∷ [])))) playback playback_now (played ++ more)
+  pub goes : Plays h turns playback middle played
+  pub goes_on : Plays h (turns ++ turn ∷ []) playback playback_now (played ++ more)
   pub given : (k : ℕ) × Appends before now (played ++ take k more)
   pub noted : (k : ℕ) × Appends notes notes_now (run_lines turns ++ take k (turn_lines turn))
 
@@ -95,7 +99,7 @@ pub record Halts (h : Heading) (playback playback_now : Playback) (input left be
   pub run : IsRun h events turns
   pub taken : (mid : Option (List ℕ)) × Consumes input mid (flat_map event_text events) × ConsumesFewer (longest_event + 1) mid left
   pub played : List ℕ
-  pub goes : GoesOn (flat_map call_text (calls_of h.filers (history_of turns))) (flat_map call_items (calls_of h.filers (history_of turns))) playback playback_now played
+  pub goes : Plays h turns playback playback_now played
   pub given : Appends before now played
   pub noted : Appends notes notes_now (run_lines turns)
 

@@ -89,8 +89,8 @@ fn open_run(alloc: Global, head: &Head) -> Result<Run, OutOfMemory>
 /// that are not Accepted, and a summary.
 ///
 /// Memory is wanted behind the script's head alone, before anything is given. A fault ends the run there,
-/// and what was given stays: all of what the events give that were read, and where a give failed of all but
-/// the last one, and a front of that.
+/// and what was given stays: what all events that were read give, and where a give failed what all but the
+/// last give, and a front of what that one gives.
 pub fn simulate<I: Source, O: Sink, E: Sink>(
     alloc: Global,
     voice: Option<[u8; 32]>,
