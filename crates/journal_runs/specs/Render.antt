@@ -3,7 +3,7 @@ use Rattle.std.specs.Prelude.{ℕ, ◌≡◌, ◌⊎◌, List, [], Option, Some}
 use Rattle.recorder.specs.declared.fault.RecordFault.{RecordFault}
 use Rattle.recorder.specs.declared.tally.PlayTally.{PlayTally}
 use Rattle.recorder.specs.Journals.{IsPlayerJournal, PlayerRecord}
-use Rattle.replay_check.specs.Render.{Renders}
+use Rattle.replay_check.specs.Render.{Renders, Stops, StopsReading}
 use Rattle.replay_check.specs.declared.rendering.RenderEnd.{RenderEnd}
 use Rattle.replay_check.specs.declared.rendering.RenderEnd.TheVariants as ends
 use Rattle.gate_notes.specs.Exchange.{Exchange, Noted, NotedPart, NotedUnlessFault}
@@ -29,3 +29,15 @@ Ends seed LinkFault x = ⊥
 -- where the input is a whole journal and none of the objects failed, the command comes to its end
 abbrev pub Completes : Status → Option (List ℕ) → Type 0 → Type 0
 Completes status input failed = (octets : List ℕ) (j : PlayerRecord) → input ≡ Some octets → IsPlayerJournal octets j → ¬ failed → status ≡ Done
+
+-- Where the journal has a fault or a read failed, what all events that were read play was given; where a give of speech failed, what all but the last play,
+-- and a front of what that one plays; where that of the notes failed, all.
+abbrev pub StopsAt : List ℕ → Status → Exchange → Option (List ℕ) → Type 0
+StopsAt seed Done x left = Unit {0}
+StopsAt seed Input x left = StopsReading seed x.input left x.output x.output_now
+StopsAt seed ReadFault x left = StopsReading seed x.input left x.output x.output_now
+StopsAt seed WriteFault x left = Stops seed ends.WriteFault x.input left x.output x.output_now ⊎ ((tally : PlayTally) × Played seed (ends.Done tally) x × NotedPart x (play_line tally))
+StopsAt seed OutOfMemory x left = Unit {0}
+StopsAt seed Usage x left = Unit {0}
+StopsAt seed Illegal x left = Unit {0}
+StopsAt seed LinkFault x left = Unit {0}

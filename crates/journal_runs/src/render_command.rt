@@ -2,7 +2,7 @@
 ghost use Rattle.std.specs.Prelude.{◌≡◌, ◌≤◌, ◌⊎◌};
 ghost use Rattle.gate_base.specs.Faults.{Rose};
 ghost use Rattle.gate_notes.specs.Exchange.{Exchange};
-ghost use Rattle.journal_runs.specs.Render.{Completes, Ends};
+ghost use Rattle.journal_runs.specs.Render.{Completes, Ends, StopsAt};
 
 use gate_io::{Failed, Sink, Source};
 use gate_notes::{Status, give_plays, note_fault};
@@ -11,7 +11,8 @@ use replay_check::RenderEnd;
 /// Plays a player's journal by a voice of this seed: the output gets 320 octets for each beat of 20 ms, and the notes
 /// what the beats came to.
 ///
-/// It takes no memory. A fault ends the run there, and what was given stays.
+/// It takes no memory. A fault ends the run there, and what was given stays: the speech of all events that were read,
+/// and where a give of speech failed that of all but the last, and a front of that.
 pub fn render<I: Source, O: Sink, E: Sink>(
     seed: [u8; 32],
     input: &mut I,
@@ -27,6 +28,15 @@ pub fn render<I: Source, O: Sink, E: Sink>(
       noted = E.faults notes.old;
       noted_now = E.faults notes.new;
     } in Ends seed result x }
+    ensures stops { let x : Exchange = record {
+      input = I.left input.old;
+      output = O.given output.old;
+      output_now = O.given output.new;
+      notes = E.given notes.old;
+      notes_now = E.given notes.new;
+      noted = E.faults notes.old;
+      noted_now = E.faults notes.new;
+    } in StopsAt seed result x (I.left input.new) }
     ensures later { (I.faults input.old ≤ I.faults input.new) × (O.faults output.old ≤ O.faults output.new) × (E.faults notes.old ≤ E.faults notes.new) }
     ensures read { result ≡ Status.ReadFault → Rose (I.faults input.old) (I.faults input.new) }
     ensures write { result ≡ Status.WriteFault → Rose (O.faults output.old) (O.faults output.new) ⊎ Rose (E.faults notes.old) (E.faults notes.new) }

@@ -1,12 +1,12 @@
 -- What the loop over events keeps.
-use Rattle.std.proofs.Common.{◌≡◌, ℕ, ◌+◌, ◌≤◌, ◌<◌, ◌^◌, List, [], ◌∷◌, ◌++◌, length, Option, Some, None, Ok, Err, refl, sym, ap, subst, ◌∙◌, append_assoc, append-nil, length-append, arith}
+use Rattle.std.proofs.Common.{◌≡◌, ℕ, ◌+◌, ◌≤◌, ◌<◌, ◌^◌, List, [], ◌∷◌, ◌++◌, length, take, Option, Some, None, Ok, Err, refl, sym, ap, subst, ◌∙◌, append_assoc, append-nil, length-append, arith}
 use Rattle.std.specs.List.{flat_map, AllByRecursion}
 use Rattle.std.specs.Io.KnownBytes.{Appends, Consumes}
 use Rattle.std.specs.Prelude.{IfSome}
 use Rattle.std.proofs.lemmas.List.{length-replicate}
 use Rattle.std.proofs.lemmas.List.Concat.{flat_map-append}
 use Rattle.std.proofs.KnownBytes.{Consumes-trans, Consumes-nil, Appends-trans, Appends-nil}
-use Rattle.gate_io.specs.Flow.{AppendsPart}
+use Rattle.gate_io.specs.Flow.{AppendsPart, ConsumesFewer}
 use Rattle.gate_io.specs.FlowLaws.{AppendsPart-after}
 use Rattle.frame_codec.specs.declared.item.Item.{Item}
 use Rattle.playout.specs.declared.call.Call.{Call}
@@ -17,10 +17,10 @@ use Rattle.playout.specs.HistoryLaws.{after_all-append, IsLegal-append, calls-ap
 use Rattle.recorder.specs.declared.fault.RecordFault.{RecordFault}
 use Rattle.recorder.specs.declared.events.ScriptEvent.{ScriptEvent}
 use Rattle.recorder.specs.declared.events.ScriptEvent.TheVariants.{Tick, File, Datagram, Beat}
-use Rattle.recorder.specs.Heads.{Heading, head_text, script_magic}
+use Rattle.recorder.specs.Heads.{Heading, IsHeading, head_text, script_magic}
 use Rattle.recorder.specs.Reader.{Progress, stepped}
 use Rattle.recorder.specs.Files.{event_limit}
-use Rattle.recorder.specs.Script.{EventFits, event_text, fault_at, script_text}
+use Rattle.recorder.specs.Script.{EventFits, event_text, fault_at, longest_event, script_text}
 use Rattle.recorder.specs.Play.{call_text}
 use Rattle.recorder.specs.Tallies.{call_items, call_replies, play_tally}
 use Rattle.script_runs.specs.Applies.{Applies, callers_of}
@@ -28,7 +28,7 @@ use Rattle.script_runs.specs.Calls.{AreTurns, Callers, IsCallable, IsTurn, Turn,
 use Rattle.script_runs.specs.Counts.{run_tally}
 use Rattle.script_runs.specs.TurnLines.{run_lines, turn_lines}
 use Rattle.script_runs.specs.Playing.{GoesOn}
-use Rattle.script_runs.specs.Ran.{IsStarted, Ran}
+use Rattle.script_runs.specs.Ran.{Breaks, Halts, IsStarted, Ran}
 use Rattle.script_runs.specs.Simulate.{fault_after}
 use Rattle.script_runs.specs.declared.playback.Playback.{Playback}
 use Rattle.script_runs.specs.declared.run.Run.{Run}
@@ -206,6 +206,38 @@ module _ (h : Heading) (playback playback_now later : Playback) (reader reader' 
     noted = subst (AppendsPart notes noted') (sym (flat-more turn_lines turns turn)) (AppendsPart-after notes noted noted' _ _ s.noted wrote);
     counted = tt;
   }
+
+  pub breaks : IsHeading h → AppendsPart given given' more → AppendsPart noted noted' (turn_lines turn) → Breaks h playback later input left' before given' notes noted'
+  breaks is gave wrote = record {
+    events = events;
+    turns = turns;
+    last = e;
+    turn = turn;
+    run = record { head = is; fit = fit-more (EventFits h) events e s.fit fits; few = few-more; last = callers_of run'; turns_are = are-more; legal = legal-more };
+    taken = taken-more;
+    middle = playback_now;
+    played = s.text;
+    more = more;
+    goes = s.goes_on;
+    goes_on = goes-more;
+    given = (gave.0, Appends-trans before given given' s.text (take gave.0 more) s.given gave.1);
+    noted = (wrote.0, Appends-trans notes noted noted' (run_lines turns) (take wrote.0 (turn_lines turn)) s.noted wrote.1);
+  }
+
+-- the reading stopped
+pub halts : (h : Heading) (playback playback_now : Playback) (reader : Progress) (run : Run) (input left left' before now notes noted : Option (List ℕ)) (events : List ScriptEvent) (turns : List Turn)
+    → IsHeading h → Sofar h playback playback_now reader run input left before now notes noted events turns → ConsumesFewer (longest_event + 1) left left'
+    → Halts h playback playback_now input left' before now notes noted
+halts h playback playback_now reader run input left left' before now notes noted events turns is s lost = record {
+  events = events;
+  turns = turns;
+  run = record { head = is; fit = s.fit; few = s.few; last = callers_of run; turns_are = s.are_turns; legal = s.legal };
+  taken = (left, s.taken, lost);
+  played = s.text;
+  goes = s.goes_on;
+  given = s.given;
+  noted = s.noted;
+}
 
 -- what is left has a fault at its front
 pub refused : (h : Heading) (playback playback_now : Playback) (reader : Progress) (run : Run) (input left before now notes noted : Option (List ℕ)) (events : List ScriptEvent) (turns : List Turn) (f : RecordFault)

@@ -1,18 +1,19 @@
 -- What `simulate` does: the events of a script, run over the playout machine in the script's own order.
-use Rattle.std.specs.Prelude.{ℕ, ◌≡◌, ◌≤◌, ◌^◌, ◌⊎◌, List, ◌∷◌, ◌++◌, length, take, Option, Some, IfSome}
+use Rattle.std.specs.Prelude.{ℕ, ◌+◌, ◌≡◌, ◌≤◌, ◌^◌, ◌⊎◌, List, [], ◌∷◌, ◌++◌, length, take, Option, Some, IfSome}
 use Rattle.std.specs.List.{AllByRecursion}
-use Rattle.std.specs.Io.KnownBytes.{Keeps}
+use Rattle.std.specs.Io.KnownBytes.{Appends, Consumes, Keeps}
+use Rattle.gate_io.specs.Flow.{ConsumesFewer}
 use Rattle.playout.specs.Machine.{opening_machine}
 use Rattle.playout.specs.History.{IsLegal, calls_of}
 use Rattle.recorder.specs.declared.fault.RecordFault.{RecordFault}
 use Rattle.recorder.specs.declared.events.ScriptEvent.{ScriptEvent}
 use Rattle.recorder.specs.Heads.{Heading, IsHeading, head_fault, script_magic}
 use Rattle.recorder.specs.Files.{event_limit, end_mark}
-use Rattle.recorder.specs.Script.{EventFits, IsScript, script_text, fault_at}
+use Rattle.recorder.specs.Script.{EventFits, IsScript, script_text, fault_at, longest_event}
 use Rattle.script_runs.specs.Calls.{AreTurns, Callers, Turn, history_of, opening_callers}
 use Rattle.gate_notes.specs.Exchange.{Exchange, Gave, GavePart, Noted, NotedPart, NotedUnlessFault}
 use Rattle.gate_notes.specs.Notes.{fault_line}
-use Rattle.script_runs.specs.TurnLines.{run_lines, summary}
+use Rattle.script_runs.specs.TurnLines.{run_lines, summary, turn_lines}
 use Rattle.script_runs.specs.Playing.{IsPlayed, ending}
 use Rattle.gate_notes.specs.declared.status.Status.{Status}
 use Rattle.gate_notes.specs.declared.status.Status.TheVariants.{Done, Illegal, Usage, Input, ReadFault, WriteFault, LinkFault, OutOfMemory}
@@ -90,3 +91,71 @@ Ends voice LinkFault x = ⊥
 -- where the input is a script and none of the objects failed, the command comes to its end, or finds no memory
 abbrev pub Completes : Status → Option (List ℕ) → Type 0 → Type 0
 Completes status input failed = (octets : List ℕ) (h : Heading) (events : List ScriptEvent) → input ≡ Some octets → IsScript octets h events → ¬ failed → (status ≡ Done) ⊎ (status ≡ OutOfMemory)
+
+-- ---- where a run stopped, by what is left of the input then
+
+-- The give of what stands before all events failed. The head was read, and a front of that was given.
+pub record BreaksAtFront (voice : Option (List ℕ)) (x : Exchange) (left : Option (List ℕ)) : Type 0 where
+  pub head : Heading
+  pub is_head : IsHeading head
+  pub taken : Consumes x.input left (script_text head [])
+  pub text : List ℕ
+  pub played : IsPlayedOf voice head [] text
+  pub gave : GavePart x text
+  pub noted : Noted x []
+
+-- A give failed in an event's turn. The script was read up to that event: what the turns before it give was given, and a front of what its own turn gives.
+pub record BreaksOff (voice : Option (List ℕ)) (x : Exchange) (left : Option (List ℕ)) : Type 0 where
+  pub head : Heading
+  pub events : List ScriptEvent
+  pub turns : List Turn
+  pub last : ScriptEvent
+  pub turn : Turn
+  pub run : IsRun head (events ++ last ∷ []) (turns ++ turn ∷ [])
+  pub taken : Consumes x.input left (script_text head (events ++ last ∷ []))
+  pub text : List ℕ
+  pub more : List ℕ
+  pub played : IsPlayedOf voice head turns text
+  pub plays : IsPlayedOf voice head (turns ++ turn ∷ []) (text ++ more)
+  pub gave : (k : ℕ) × Appends x.output x.output_now (text ++ take k more)
+  pub noted : (k : ℕ) × Appends x.notes x.notes_now (run_lines turns ++ take k (turn_lines turn))
+
+-- The reading stopped behind these events, and no more than an event's octets were taken behind them. What their turns give was given; the notes have the line of
+-- the fault behind it, or a front of that, where there is one.
+pub record StopsShort (voice : Option (List ℕ)) (x : Exchange) (left : Option (List ℕ)) : Type 0 where
+  pub head : Heading
+  pub events : List ScriptEvent
+  pub turns : List Turn
+  pub run : IsRun head events turns
+  pub taken : (mid : Option (List ℕ)) × Consumes x.input mid (script_text head events) × ConsumesFewer (longest_event + 1) mid left
+  pub text : List ℕ
+  pub played : IsPlayedOf voice head turns text
+  pub gave : Gave x text
+  pub noted : (line : List ℕ) × Noted x (run_lines turns ++ line)
+
+-- the input is a whole script, and a give behind its end mark failed
+pub record BreaksBehind (voice : Option (List ℕ)) (x : Exchange) : Type 0 where
+  pub head : Heading
+  pub events : List ScriptEvent
+  pub turns : List Turn
+  pub run : IsRun head events turns
+  pub whole : IfSome x.input (Begins head events (λ rest. (more : List ℕ) × (rest ≡ end_mark ∷ more)))
+  pub text : List ℕ
+  pub played : IsPlayedOf voice head turns text
+  pub broken : BrokenAtEnd voice head turns text x
+
+-- nothing was given, and no more than a head's octets were taken; or the reading stopped behind some events
+abbrev pub StopsReading : Option (List ℕ) → Exchange → Option (List ℕ) → Type 0
+StopsReading voice x left = (Keeps x.output x.output_now × ConsumesFewer 13 x.input left) ⊎ StopsShort voice x left
+
+-- Where the script has a fault or a read failed, what all events that were read give was given; where a give failed, what all but the last give, and a front
+-- of what that one gives.
+abbrev pub Stops : Option (List ℕ) → Status → Exchange → Option (List ℕ) → Type 0
+Stops voice Done x left = Unit {0}
+Stops voice Input x left = StopsReading voice x left
+Stops voice ReadFault x left = StopsReading voice x left
+Stops voice WriteFault x left = BreaksAtFront voice x left ⊎ BreaksOff voice x left ⊎ BreaksBehind voice x
+Stops voice OutOfMemory x left = Unit {0}
+Stops voice Usage x left = Unit {0}
+Stops voice Illegal x left = Unit {0}
+Stops voice LinkFault x left = Unit {0}

@@ -7,8 +7,8 @@ ghost use Rattle.script_runs.specs.Calls.{Turn, opening_callers};
 ghost use Rattle.gate_notes.specs.Notes.{play_line, tally_line};
 ghost use Rattle.gate_notes.specs.Exchange.{Exchange};
 ghost use Rattle.script_runs.specs.Playing.{end_text};
-ghost use Rattle.script_runs.specs.Ran.{Finishes, IsOpened, IsStarted, Ran};
-ghost use Rattle.script_runs.specs.Simulate.{Completes, Ends};
+ghost use Rattle.script_runs.specs.Ran.{Finishes, IsOpened, IsStarted, Ran, StopsAt};
+ghost use Rattle.script_runs.specs.Simulate.{Completes, Ends, Stops};
 
 use crate::filers::new_filers;
 use crate::playback::Playback;
@@ -33,6 +33,7 @@ fn run_events<I: Source, O: Sink, E: Sink>(
     requires { IsStarted head.now reader.old start }
     ensures ran { (events : List ScriptEvent) × (turns : List Turn)
         × Ran head.now playback.old playback.new (I.left input.old) (O.given output.old) (O.given output.new) (E.given notes.old) (E.given notes.new) result events turns }
+    ensures stops { StopsAt result head.now playback.old playback.new (I.left input.old) (I.left input.new) (O.given output.old) (O.given output.new) (E.given notes.old) (E.given notes.new) }
     ensures later { (I.faults input.old ≤ I.faults input.new) × (O.faults output.old ≤ O.faults output.new) × (E.faults notes.old ≤ E.faults notes.new) }
     ensures read { result ≡ Err Stop.ReadFault → Rose (I.faults input.old) (I.faults input.new) }
     ensures write { result ≡ Err Stop.WriteFault → Rose (O.faults output.old) (O.faults output.new) ⊎ Rose (E.faults notes.old) (E.faults notes.new) }
@@ -88,7 +89,8 @@ fn open_run(alloc: Global, head: &Head) -> Result<Run, OutOfMemory>
 /// that are not Accepted, and a summary.
 ///
 /// Memory is wanted behind the script's head alone, before anything is given. A fault ends the run there,
-/// and what was given stays.
+/// and what was given stays: what all events that were read give, and where a give failed what all but the
+/// last give, and a front of what that one gives.
 pub fn simulate<I: Source, O: Sink, E: Sink>(
     alloc: Global,
     voice: Option<[u8; 32]>,
@@ -105,6 +107,15 @@ pub fn simulate<I: Source, O: Sink, E: Sink>(
       noted = E.faults notes.old;
       noted_now = E.faults notes.new;
     } in Ends voice result x }
+    ensures stops { let x : Exchange = record {
+      input = I.left input.old;
+      output = O.given output.old;
+      output_now = O.given output.new;
+      notes = E.given notes.old;
+      notes_now = E.given notes.new;
+      noted = E.faults notes.old;
+      noted_now = E.faults notes.new;
+    } in Stops voice result x (I.left input.new) }
     ensures later { (I.faults input.old ≤ I.faults input.new) × (O.faults output.old ≤ O.faults output.new) × (E.faults notes.old ≤ E.faults notes.new) }
     ensures read { result ≡ Status.ReadFault → Rose (I.faults input.old) (I.faults input.new) }
     ensures write { result ≡ Status.WriteFault → Rose (O.faults output.old) (O.faults output.new) ⊎ Rose (E.faults notes.old) (E.faults notes.new) }

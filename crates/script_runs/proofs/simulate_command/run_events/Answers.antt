@@ -5,7 +5,7 @@ use Rattle.recorder.specs.Reader.{Progress}
 use Rattle.script_runs.specs.Calls.{IsCallable}
 use Rattle.script_runs.specs.Applies.{Applies}
 use Rattle.script_runs.specs.declared.run.Run.{Run}
-use Rattle.script_runs.proofs.Sofar.{sofar-more, sofar-none, broken, refused, callable}
+use Rattle.script_runs.proofs.Sofar.{sofar-more, sofar-none, breaks, broken, callable, halts, refused}
 use Rattle.script_runs.proofs.simulate_command.run_events.Goals as goal
 
 pub apply-requires-clause-callable : goal.apply-requires-clause-callable
@@ -105,3 +105,27 @@ returns-in-Err-Fault-clause-ran g c =
     let s = c.events.invariant.sofar.2 in
     let all = rw c.in-Err-Fault.field-0-is at c.in-Err-Fault.ensures in
     (c.events.invariant.sofar.0, c.events.invariant.sofar.1, refused c.args.head.now c.args.playback.now c.events.playback c.events.reader c.events.run _ _ _ _ _ _ _ _ c.in-Err-Fault.fault s (all.fault c.args.head.now s.head s.over))
+
+pub returns-in-Err-clause-stops : goal.returns-in-Err-clause-stops
+returns-in-Err-clause-stops g c =
+    let s = c.events.invariant.sofar.2 in
+    let e = c.in-Ok-Some.event in
+    let all = rw c.in-Ok-Some.field-0-is at c.in-Ok-Some.ensures in
+    let fits = all.fits c.args.head.now s.head s.over in
+    let left = g.I.Source.left in
+    let given = g.O.Sink.given in
+    let noted = g.E.Sink.given in
+    let done = c.in-Err.ensures.applied in
+    breaks c.args.head.now c.args.playback.now c.events.playback c.apply.new.playback c.events.reader c.next.new.self c.events.run done.0 (left c.args.input.now) (left c.events.input) (left c.next.new.source)
+    (given c.args.output.now) (given c.events.output) (given c.apply.new.output) (noted c.args.notes.now) (noted c.events.notes) (noted c.apply.new.notes)
+    c.events.invariant.sofar.0 c.events.invariant.sofar.1 e done.1 done.2 s fits.0 fits.1 (all.text s.over) done.3 done.5 c.requires.heading done.6 done.7
+
+pub returns-in-Err-Fault-clause-stops : goal.returns-in-Err-Fault-clause-stops
+returns-in-Err-Fault-clause-stops g c =
+    let all = rw c.in-Err-Fault.field-0-is at c.in-Err-Fault.ensures in
+    halts c.args.head.now c.args.playback.now c.events.playback c.events.reader c.events.run _ _ (g.I.Source.left c.next.new.source) _ _ _ _ _ _ c.requires.heading c.events.invariant.sofar.2 all.part
+
+pub returns-in-Err-ReadFailed-clause-stops : goal.returns-in-Err-ReadFailed-clause-stops
+returns-in-Err-ReadFailed-clause-stops g c =
+    let all = rw c.in-Err-ReadFailed.field-0-is at c.in-Err-ReadFailed.ensures in
+    halts c.args.head.now c.args.playback.now c.events.playback c.events.reader c.events.run _ _ (g.I.Source.left c.next.new.source) _ _ _ _ _ _ c.requires.heading c.events.invariant.sofar.2 all.part
