@@ -1,5 +1,5 @@
 -- What each command over files does.
-use Rattle.std.specs.Prelude.{ℕ, List, [], ◌∷◌, Option}
+use Rattle.std.specs.Prelude.{ℕ, List, [], ◌∷◌, Option, None}
 use Rattle.command_line.specs.declared.line.Command.{Command}
 use Rattle.command_line.specs.declared.line.Command.TheVariants.{Simulate, Decode, Encode, Render, Verify, Make}
 use Rattle.gate_notes.specs.declared.status.Status.{Status}
@@ -10,6 +10,14 @@ use Rattle.speech_files.specs.Encode as encode
 use Rattle.journal_runs.specs.Render as render
 use Rattle.journal_runs.specs.Verify as verify
 use Rattle.journal_runs.specs.Make as make
+
+-- what passed to the notes, where nothing is told of an output
+abbrev pub noting : Option (List ℕ) → Option (List ℕ) → ℕ → ℕ → Giving
+noting before now faults faults_now = record { output = None; output_now = None; notes = before; notes_now = now; noted = faults; noted_now = faults_now }
+
+-- what passed to the notes, and to an output
+abbrev pub giving : Option (List ℕ) → Option (List ℕ) → Giving → Giving
+giving before now x = record x { output = before; output_now = now }
 
 -- there is one input, and this holds of it
 abbrev pub OfOne : (Option (List ℕ) → Type 0) → List (Option (List ℕ)) → Type 0
@@ -39,3 +47,20 @@ CompletesAs Encode status inputs failed = OfOne (λ input. encode.Completes stat
 CompletesAs (Render seed) status inputs failed = OfOne (λ input. render.Completes status input failed) inputs
 CompletesAs Verify status inputs failed = verify.Completes status inputs failed
 CompletesAs (Make seed count filers) status inputs failed = OfNone (make.Completes status failed) inputs
+
+-- there is one input, and this holds of it and of what is left of it
+abbrev pub OfOneLeft : (Option (List ℕ) → Option (List ℕ) → Type 0) → List (Option (List ℕ)) → List (Option (List ℕ)) → Type 0
+OfOneLeft P (input ∷ []) (left ∷ []) = P input left
+OfOneLeft P (input ∷ []) [] = ⊥
+OfOneLeft P (input ∷ []) (left ∷ more ∷ rest) = ⊥
+OfOneLeft P [] left = ⊥
+OfOneLeft P (input ∷ more ∷ inputs) left = ⊥
+
+-- where a command over events stops, by what is left of its input: what the events before have given
+abbrev pub StopsAs : Command → Status → List (Option (List ℕ)) → List (Option (List ℕ)) → Giving → Type 0
+StopsAs (Simulate voice) status inputs left x = OfOneLeft (λ input rest. simulate.Stops voice status (over x input) rest) inputs left
+StopsAs (Render seed) status inputs left x = OfOneLeft (λ input rest. render.StopsAt seed status (over x input) rest) inputs left
+StopsAs Decode status inputs left x = Unit {0}
+StopsAs Encode status inputs left x = Unit {0}
+StopsAs Verify status inputs left x = Unit {0}
+StopsAs (Make seed count filers) status inputs left x = Unit {0}

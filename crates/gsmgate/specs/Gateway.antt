@@ -80,14 +80,6 @@ pub record IsOpened (ticks links journals : ℕ) (g : SystemGateway) : Type 0 wh
 
 -- ---- what the notes get
 
--- what passed to the notes, where nothing is told of an output
-abbrev pub noting : Option (List ℕ) → Option (List ℕ) → ℕ → ℕ → Giving
-noting before now faults faults_now = record { output = None; output_now = None; notes = before; notes_now = now; noted = faults; noted_now = faults_now }
-
--- what passed to the notes, and to an output
-abbrev pub giving : Option (List ℕ) → Option (List ℕ) → Giving → Giving
-giving before now x = record x { output = before; output_now = now }
-
 -- the notes are as they were
 abbrev pub IsQuiet : Giving → Type 0
 IsQuiet x = Keeps x.notes x.notes_now

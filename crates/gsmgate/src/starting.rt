@@ -11,8 +11,8 @@ ghost use Rattle.line_run.specs.Seen.{clock_seen, link_seen, player_seen, sink_s
 ghost use Rattle.gate_notes.specs.Exchange.{GainedUnlessFault, NoneFell, SomeRose};
 ghost use Rattle.gate_notes.specs.Notes.{usage_line};
 ghost use Rattle.serve_runs.specs.Serve.{StatusFollows, fault_of_ends, line_options, serve_lines};
-ghost use Rattle.gsmgate.specs.Commands.{CompletesAs, EndsAs};
-ghost use Rattle.gsmgate.specs.Gateway.{AreOpen, IfEnded, IfFiles, IfServe, IsOpenedAt, Starts, giving, noting};
+ghost use Rattle.gsmgate.specs.Commands.{CompletesAs, EndsAs, StopsAs, giving, noting};
+ghost use Rattle.gsmgate.specs.Gateway.{AreOpen, IfEnded, IfFiles, IfServe, IsOpenedAt, Starts};
 
 use crate::gateway::{Gateway, OsGateway, open_gateway};
 use crate::offline::run_offline;
@@ -173,6 +173,8 @@ pub fn run_on<
         → ((result.status ≡ Status.OutOfMemory) × (p.inputs.items ≡ o.inputs.items) × (p.output ≡ o.output) × (notes.new ≡ notes.old))
         ⊎ (EndsAs said.command result.status (map I.left o.inputs.items) (giving (O.given o.output) (O.given p.output) (noting (E.given notes.old) (E.given notes.new) (E.faults notes.old) (E.faults notes.new)))
         × CompletesAs said.command result.status (map I.left o.inputs.items) (SomeRose (map I.faults o.inputs.items) (map I.faults p.inputs.items) ⊎ Rose (O.faults o.output) (O.faults p.output) ⊎ Rose (E.faults notes.old) (E.faults notes.new)))) }
+    ensures files_stops { IfFiles started.old started.new (λ o p. (said : FilesSaid) → line_of (map string_bytes o.words.items) ≡ Some (Files said) → fits_files (map string_bytes o.words.items) (length o.inputs.items) ≡ true
+        → (result.status ≡ Status.OutOfMemory) ⊎ StopsAs said.command result.status (map I.left o.inputs.items) (map I.left p.inputs.items) (giving (O.given o.output) (O.given p.output) (noting (E.given notes.old) (E.given notes.new) (E.faults notes.old) (E.faults notes.new)))) }
     ensures files_many { IfFiles started.old started.new (λ o p. length p.inputs.items ≡ length o.inputs.items) }
     ensures files_read { IfFiles started.old started.new (λ o p. result.status ≡ Status.ReadFault → SomeRose (map I.faults o.inputs.items) (map I.faults p.inputs.items)) }
     ensures files_write { IfFiles started.old started.new (λ o p. result.status ≡ Status.WriteFault → Rose (O.faults o.output) (O.faults p.output) ⊎ Rose (E.faults notes.old) (E.faults notes.new)) }

@@ -2,7 +2,7 @@ use Rattle.std.proofs.Common.{map}
 use Rattle.std.specs.String.{string_bytes}
 use Rattle.std.proofs.KnownBytes.{Keeps-refl}
 use Rattle.command_line.specs.Lines.{line_of}
-use Rattle.gsmgate.specs.Gateway.{noting}
+use Rattle.gsmgate.specs.Commands.{noting}
 use Rattle.gsmgate.proofs.Opening.{opened, starved}
 use Rattle.gsmgate.proofs.starting.open_words.Goals as goal
 
