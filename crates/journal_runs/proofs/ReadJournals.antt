@@ -12,8 +12,8 @@ use Rattle.recorder.specs.Heads.{Heading}
 use Rattle.recorder.specs.Journals.{FilerRecord, FilerRecordFits, PlayerRecord, PlayerRecordFits, filer_text, player_text}
 use Rattle.replay_check.specs.Journals.{AreNumbered, AreOfOneLine}
 use Rattle.gate_notes.specs.Exchange.{NoneFell, SomeRose}
-use Rattle.journal_runs.specs.Verify.{FilerHasFault, HasFirstFault, PlayerHasFault, TellFilers, TellJournals, TellsFiler, TellsPlayer, filer_misfit, fitting, player_misfit}
-use Rattle.journal_runs.specs.VerifyRuns.{AreUnread, FilersUnread, unread_at}
+use Rattle.journal_runs.specs.Verify.{FailsAtInput, FilerHasFault, HasFirstFault, KeepsBehind, PlayerHasFault, TellFilers, TellJournals, TellsFiler, TellsPlayer, filer_misfit, fitting, player_misfit}
+use Rattle.journal_runs.specs.VerifyRuns.{AreUnread, FilersUnread, LeavesBehind, LeavesFilersBehind, unread_at}
 use Rattle.journal_runs.specs.declared.journals.Unread.{Unread}
 use Rattle.journal_runs.specs.declared.journals.Unread.TheVariants as unread
 use Rattle.journal_runs.proofs.Refuted.{same-count}
@@ -169,6 +169,20 @@ module _ {D : Type 0} (left : D → Option (List ℕ)) (faults : D → ℕ) (h :
   unread-here (refusal.End ReadFailed) fault = tt
   unread-here refusal.OutOfMemory fault = tt
 
+  kept-here : KeepsBehind k before (slice_set now k new)
+  kept-here = drop-set now k new ∙ drop-more now before k read.rest
+
+  -- those behind it were not read
+  pub left-behind : (why : JournalRefusal) → (why ≡ refusal.End ReadFailed → Rose (faults old) (faults new)) → LeavesFilersBehind faults (unread_at (k + 1) why) before (slice_set now k new)
+  left-behind (refusal.End (Fault f)) rose = (k, add-one k, kept-here)
+  left-behind (refusal.End ReadFailed) rose = (
+    k,
+    within before k old there,
+    omega (arith, rose refl, at-map faults before k old there, at-set faults now k old new here),
+    kept-here,
+  )
+  left-behind refusal.OutOfMemory rose = tt
+
   pub rose-here : Rose (faults old) (faults new) → (j : ℕ) × (j < length (map faults before)) × Rose (slice_index (map faults before) j) (slice_index (map faults (slice_set now k new)) j)
   rose-here rose = (
     k,
@@ -246,3 +260,21 @@ cons-rose {D} faults inputs rest rest' now x y is is' (k, below, rose) =
 pub first-rose : {D : Type 0} (faults : D → ℕ) (inputs rest rest' now : List D) (x y : D) → inputs ≡ x ∷ rest → now ≡ y ∷ rest' → Rose (faults x) (faults y) → SomeRose (map faults inputs) (map faults now)
 first-rose {D} faults inputs rest rest' now x y is is' rose =
     subst (λ (l : List D). SomeRose (map faults l) (map faults now)) (sym is) (subst (λ (l : List D). SomeRose (faults x ∷ map faults rest) (map faults l)) (sym is') (0, omega arith, rose))
+
+pub player-behind : {D : Type 0} (faults : D → ℕ) (inputs rest now : List D) (x y : D) → inputs ≡ x ∷ rest → now ≡ y ∷ rest → (why : JournalRefusal) → (why ≡ refusal.End ReadFailed → Rose (faults x) (faults y)) → LeavesBehind faults (unread_at 0 why) inputs now
+player-behind {D} faults inputs rest now x y is is' why rose =
+    subst (λ (l : List D). LeavesBehind faults (unread_at 0 why) l now) (sym is) (subst (λ (l : List D). LeavesBehind faults (unread_at 0 why) (x ∷ rest) l) (sym is') (left why rose))
+  where
+    left : (why : JournalRefusal) → (why ≡ refusal.End ReadFailed → Rose (faults x) (faults y)) → LeavesBehind faults (unread_at 0 why) (x ∷ rest) (y ∷ rest)
+    left (refusal.End (Fault f)) rose = refl
+    left (refusal.End ReadFailed) rose = (0, omega arith, rose refl, refl)
+    left refusal.OutOfMemory rose = tt
+
+pub filers-behind : {D : Type 0} (faults : D → ℕ) (inputs rest rest' now : List D) (x y : D) → inputs ≡ x ∷ rest → now ≡ y ∷ rest' → (u : Unread) → LeavesFilersBehind faults u rest rest' → LeavesBehind faults u inputs now
+filers-behind {D} faults inputs rest rest' now x y is is' u why =
+    subst (λ (l : List D). LeavesBehind faults u l now) (sym is) (subst (λ (l : List D). LeavesBehind faults u (x ∷ rest) l) (sym is') (left u why))
+  where
+    left : (u : Unread) → LeavesFilersBehind faults u rest rest' → LeavesBehind faults u (x ∷ rest) (y ∷ rest')
+    left (unread.Fault place fault) (k, at, kept) = subst (λ (n : ℕ). KeepsBehind n (x ∷ rest) (y ∷ rest')) (sym at) kept
+    left unread.ReadFault (k, below, rose, kept) = (suc k, omega (arith, below), rose, kept)
+    left unread.OutOfMemory why = tt

@@ -1,18 +1,18 @@
 -- From the journals to the whole command.
-use Rattle.std.proofs.Common.{◌≡◌, ℕ, List, length, Option, refl, sym, subst, inr}
-use Rattle.std.specs.Prelude.{◌^◌}
+use Rattle.std.proofs.Common.{◌≡◌, ℕ, List, length, Option, refl, sym, subst, inl, inr}
+use Rattle.std.specs.Prelude.{◌⊎◌, ◌^◌}
 use Rattle.std.specs.Io.KnownBytes.{Keeps}
 use Rattle.recorder.specs.Journals.{FilerRecord, FilersHaveNoFault, PlayerRecord, PlayersHaveNoFault}
 use Rattle.replay_check.specs.declared.verdict.Verdict.{Verdict}
 use Rattle.replay_check.specs.Journals.{AreOfOneLine, journal_lists}
 use Rattle.replay_check.specs.Rule.{IsVerdict}
-use Rattle.gate_notes.specs.Exchange.{Giving}
-use Rattle.journal_runs.specs.Verify.{Completes, Ends, HasVerdict, TellJournals}
-use Rattle.journal_runs.specs.VerifyRuns.{AreUnread, IsRefused}
+use Rattle.gate_notes.specs.Exchange.{GainedUnlessFault, Giving}
+use Rattle.journal_runs.specs.Verify.{Completes, Ends, HasVerdict, StopsAtInput, TellJournals}
+use Rattle.journal_runs.specs.VerifyRuns.{AreUnread, IsRefused, LeavesBehind}
 use Rattle.journal_runs.specs.declared.journals.Unread.{Unread}
 use Rattle.journal_runs.specs.declared.journals.Unread.TheVariants as unread
 use Rattle.gate_notes.specs.declared.status.Status.{Status}
-use Rattle.gate_notes.specs.declared.status.Status.TheVariants.{ReadFault, WriteFault}
+use Rattle.gate_notes.specs.declared.status.Status.TheVariants.{Done, Illegal, ReadFault, WriteFault}
 use Rattle.journal_runs.proofs.Refuted.{not_first}
 
 module _ (inputs : List (Option (List ℕ))) where
@@ -38,6 +38,22 @@ module _ (inputs : List (Option (List ℕ))) where
       absurd (not_first no_player no_filer inputs p fs place fault told tells one first)
   refused-completes no_player no_filer unread.ReadFault s notes notes_now noted noted_now failed first (is, gained) cause p fs told tells one fine = absurd (fine (cause refl))
   refused-completes no_player no_filer unread.OutOfMemory s notes notes_now noted noted_now failed first (is, gained) cause p fs told tells one fine = inr (inr is)
+
+  -- the inputs behind the one that was not read are as they were
+  pub refused-behind : {D : Type 0} (faults : D → ℕ) (old new : List D) (u : Unread) (s : Status) (notes notes_now : Option (List ℕ)) (noted noted_now : ℕ)
+      → AreUnread inputs u → LeavesBehind faults u old new → IsRefused u s notes notes_now noted noted_now → StopsAtInput s inputs faults old new (GainedUnlessFault notes notes_now noted noted_now)
+  refused-behind faults old new (unread.Fault place fault) s notes notes_now noted noted_now first left (is, gained) =
+      subst (λ (t : Status). StopsAtInput t inputs faults old new (GainedUnlessFault notes notes_now noted noted_now)) (sym is) (place, fault, first, gained, left)
+  refused-behind faults old new unread.ReadFault s notes notes_now noted noted_now first left (is, kept) =
+      subst (λ (t : Status). StopsAtInput t inputs faults old new (GainedUnlessFault notes notes_now noted noted_now)) (sym is) left
+  refused-behind faults old new unread.OutOfMemory s notes notes_now noted noted_now first left (is, kept) =
+      subst (λ (t : Status). StopsAtInput t inputs faults old new (GainedUnlessFault notes notes_now noted noted_now)) (sym is) tt
+
+  -- all inputs were read
+  pub verdict-behind : {D : Type 0} (faults : D → ℕ) (old new : List D) (s : Status) (noted : List ℕ → Type 0) → (s ≡ Done) ⊎ (s ≡ Illegal) ⊎ (s ≡ WriteFault) → StopsAtInput s inputs faults old new noted
+  verdict-behind faults old new s noted (inl is) = subst (λ (t : Status). StopsAtInput t inputs faults old new noted) (sym is) tt
+  verdict-behind faults old new s noted (inr (inl is)) = subst (λ (t : Status). StopsAtInput t inputs faults old new noted) (sym is) tt
+  verdict-behind faults old new s noted (inr (inr is)) = subst (λ (t : Status). StopsAtInput t inputs faults old new noted) (sym is) tt
 
   -- the verdict is that on the inputs
   pub verdict-on : (p : PlayerRecord) (fs : List FilerRecord) (v : Verdict) → TellJournals inputs p fs → AreOfOneLine fs p → IsVerdict (2 ^ p.head.g) (length fs) (journal_lists fs p) v → HasVerdict inputs p.head.filers v

@@ -1,7 +1,8 @@
 -- What `verify` does: whether the journals of a line have a legal history.
-use Rattle.std.specs.Prelude.{ℕ, zero, suc, ◌≡◌, ◌⊎◌, ◌^◌, ◌==◌, List, [], ◌∷◌, length, take, slice_get, Bool, Option, Some, None, IsSome, IfSome, if◌then◌else◌}
+use Rattle.std.specs.Prelude.{ℕ, zero, suc, ◌≡◌, ◌⊎◌, ◌<◌, ◌^◌, ◌==◌, List, [], ◌∷◌, length, map, take, drop, slice_get, slice_index, Bool, Option, Some, None, IsSome, IfSome, if◌then◌else◌}
 use Rattle.std.specs.List.{AllByRecursion}
 use Rattle.std.specs.Io.KnownBytes.{Appends, Keeps}
+use Rattle.gate_base.specs.Faults.{Rose}
 use Rattle.recorder.specs.declared.fault.RecordFault.{RecordFault}
 use Rattle.recorder.specs.declared.fault.RecordFault.TheVariants.{Field}
 use Rattle.recorder.specs.Heads.{Heading}
@@ -123,3 +124,24 @@ Ends LinkFault inputs x = ⊥
 abbrev pub Completes : Status → List (Option (List ℕ)) → Type 0 → Type 0
 Completes status inputs failed = (p : PlayerRecord) (fs : List FilerRecord) → AllByRecursion IsSome inputs → TellJournals inputs p fs → AreOfOneLine fs p → ¬ failed
     → (status ≡ Done) ⊎ (status ≡ Illegal) ⊎ (status ≡ OutOfMemory)
+
+-- ---- where the reading of the inputs stopped, by the counts of their faults
+
+-- the inputs behind this place are as they were
+abbrev pub KeepsBehind : {D : Type 0} → ℕ → List D → List D → Type 0
+KeepsBehind place old new = drop (suc place) new ≡ drop (suc place) old
+
+-- the count of the input at some place rose, and the inputs behind that place are as they were
+abbrev pub FailsAtInput : {D : Type 0} → (D → ℕ) → List D → List D → Type 0
+FailsAtInput faults old new = (place : ℕ) × (place < length old) × Rose (slice_index (map faults old) place) (slice_index (map faults new) place) × KeepsBehind place old new
+
+-- the inputs behind the one where the reading stopped are as they were: behind the first with a fault, of which the notes have the line, or behind one whose count rose
+abbrev pub StopsAtInput : {D : Type 0} → Status → List (Option (List ℕ)) → (D → ℕ) → List D → List D → (List ℕ → Type 0) → Type 0
+StopsAtInput Input lefts faults old new noted = (place : ℕ) × (fault : RecordFault) × HasFirstFault lefts place fault × noted (fault_line place fault) × KeepsBehind place old new
+StopsAtInput ReadFault lefts faults old new noted = FailsAtInput faults old new
+StopsAtInput Done lefts faults old new noted = Unit {0}
+StopsAtInput Illegal lefts faults old new noted = Unit {0}
+StopsAtInput WriteFault lefts faults old new noted = Unit {0}
+StopsAtInput OutOfMemory lefts faults old new noted = Unit {0}
+StopsAtInput Usage lefts faults old new noted = Unit {0}
+StopsAtInput LinkFault lefts faults old new noted = Unit {0}

@@ -7,7 +7,7 @@ use Rattle.recorder.specs.declared.refusal.JournalRefusal.TheVariants as refusal
 use Rattle.recorder.specs.Heads.{Heading}
 use Rattle.gate_notes.specs.Exchange.{GainedUnlessFault}
 use Rattle.gate_notes.specs.Notes.{fault_line}
-use Rattle.journal_runs.specs.Verify.{FilerIsFirst, HasFirstFault}
+use Rattle.journal_runs.specs.Verify.{FailsAtInput, FilerIsFirst, HasFirstFault, KeepsBehind}
 use Rattle.journal_runs.specs.declared.journals.Unread.{Unread}
 use Rattle.journal_runs.specs.declared.journals.Unread.TheVariants as unread
 use Rattle.gate_notes.specs.declared.status.Status.{Status}
@@ -30,6 +30,18 @@ abbrev pub AreUnread : List (Option (List ℕ)) → Unread → Type 0
 AreUnread inputs (unread.Fault place fault) = HasFirstFault inputs place fault
 AreUnread inputs unread.ReadFault = Unit {0}
 AreUnread inputs unread.OutOfMemory = Unit {0}
+
+-- the inputs behind the one that stopped the reading are as they were: behind the faulty one, or behind one whose count of faults rose
+abbrev pub LeavesBehind : {D : Type 0} → (D → ℕ) → Unread → List D → List D → Type 0
+LeavesBehind faults (unread.Fault place fault) old new = KeepsBehind place old new
+LeavesBehind faults unread.ReadFault old new = FailsAtInput faults old new
+LeavesBehind faults unread.OutOfMemory old new = Unit {0}
+
+-- the same of the filers' inputs alone; input 0 is the player's
+abbrev pub LeavesFilersBehind : {D : Type 0} → (D → ℕ) → Unread → List D → List D → Type 0
+LeavesFilersBehind faults (unread.Fault place fault) old new = (k : ℕ) × (place ≡ suc k) × KeepsBehind k old new
+LeavesFilersBehind faults unread.ReadFault old new = FailsAtInput faults old new
+LeavesFilersBehind faults unread.OutOfMemory old new = Unit {0}
 
 -- the status for it, and what the notes have gained, or a front of that where a give failed
 abbrev pub IsRefused : Unread → Status → Option (List ℕ) → Option (List ℕ) → ℕ → ℕ → Type 0

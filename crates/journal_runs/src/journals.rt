@@ -1,11 +1,11 @@
 // The journals of a line, as they are read.
-ghost use Rattle.std.specs.Prelude.{ℕ, ◌≡◌, ◌≤◌, [], length, map, Some, None, Err, IfOk, MatchResult};
+ghost use Rattle.std.specs.Prelude.{ℕ, ◌≡◌, ◌≤◌, [], length, map, Some, None, Err, IfErr, IfOk, MatchResult};
 ghost use Rattle.gate_base.specs.Faults.{Rose};
 ghost use Rattle.recorder.specs.declared.fault.RecordFault.{RecordFault};
 ghost use Rattle.replay_check.specs.Journals.{AreNumbered, AreOfOneLine};
 ghost use Rattle.gate_notes.specs.Exchange.{NoneFell, SomeRose};
 ghost use Rattle.journal_runs.specs.Verify.{FilerHasFault, PlayerHasFault, TellFilers, TellJournals, TellsFiler, TellsPlayer, filer_misfit, player_misfit};
-ghost use Rattle.journal_runs.specs.VerifyRuns.{AreUnread, FilersUnread, unread_at};
+ghost use Rattle.journal_runs.specs.VerifyRuns.{AreUnread, FilersUnread, LeavesBehind, LeavesFilersBehind, unread_at};
 
 use gate_io::Source;
 use recorder::{FilerJournal, Head, JournalRefusal, PlayerJournal, RecordEnd, RecordFault};
@@ -126,6 +126,7 @@ fn read_filers<I: Source>(
         (FilersUnread head.now (map I.left inputs.old)) }
     ensures later { NoneFell (map I.faults inputs.old) (map I.faults inputs.new) }
     ensures failed { result ≡ Err Unread.ReadFault → SomeRose (map I.faults inputs.old) (map I.faults inputs.new) }
+    ensures behind { IfErr result (λ u. LeavesFilersBehind I.faults u inputs.old inputs.new) }
 {
     let mut filers = Vec::new(alloc);
     'journals: for k in 0..head.filers {
@@ -149,6 +150,7 @@ pub fn read_journals<I: Source>(alloc: Global, inputs: &mut [I]) -> Result<Journ
         (AreUnread (map I.left inputs.old)) }
     ensures later { NoneFell (map I.faults inputs.old) (map I.faults inputs.new) }
     ensures failed { result ≡ Err Unread.ReadFault → SomeRose (map I.faults inputs.old) (map I.faults inputs.new) }
+    ensures behind { IfErr result (λ u. LeavesBehind I.faults u inputs.old inputs.new) }
 {
     let (first, rest) = inputs.split_at_mut(1);
     let player = match read_player(alloc, rest.len(), &mut first[0]) {

@@ -1,8 +1,8 @@
 // The command `verify`: whether the journals of a line have a legal history.
 ghost use Rattle.std.specs.Prelude.{ℕ, ◌≡◌, ◌≤◌, ◌⊎◌, List, Option, length, map};
 ghost use Rattle.gate_base.specs.Faults.{Rose};
-ghost use Rattle.gate_notes.specs.Exchange.{Giving, NoneFell, SomeRose};
-ghost use Rattle.journal_runs.specs.Verify.{Completes, Ends, HasVerdict};
+ghost use Rattle.gate_notes.specs.Exchange.{GainedUnlessFault, Giving, NoneFell, SomeRose};
+ghost use Rattle.journal_runs.specs.Verify.{Completes, Ends, HasVerdict, StopsAtInput};
 ghost use Rattle.journal_runs.specs.VerifyRuns.{IsRefused};
 
 use crate::journals::{Unread, read_journals};
@@ -88,6 +88,7 @@ pub fn verify<I: Source, O: Sink, E: Sink>(
     ensures many { length inputs.new ≡ length inputs.old }
     ensures later { NoneFell (map I.faults inputs.old) (map I.faults inputs.new) × (O.faults output.old ≤ O.faults output.new) × (E.faults notes.old ≤ E.faults notes.new) }
     ensures read { result ≡ Status.ReadFault → SomeRose (map I.faults inputs.old) (map I.faults inputs.new) }
+    ensures behind { StopsAtInput result (map I.left inputs.old) I.faults inputs.old inputs.new (GainedUnlessFault (E.given notes.old) (E.given notes.new) (E.faults notes.old) (E.faults notes.new)) }
     ensures write { result ≡ Status.WriteFault → Rose (O.faults output.old) (O.faults output.new) ⊎ Rose (E.faults notes.old) (E.faults notes.new) }
     ensures complete { Completes result (map I.left inputs.old) (SomeRose (map I.faults inputs.old) (map I.faults inputs.new) ⊎ Rose (O.faults output.old) (O.faults output.new) ⊎ Rose (E.faults notes.old) (E.faults notes.new)) }
     ensures kin { O.kin output.old output.new × E.kin notes.old notes.new }

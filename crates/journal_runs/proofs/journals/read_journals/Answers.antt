@@ -3,7 +3,7 @@ use Rattle.recorder.specs.Heads.{Heading}
 use Rattle.replay_check.specs.Journals.{AreNumbered}
 use Rattle.journal_runs.specs.declared.journals.Unread.{Unread}
 use Rattle.journal_runs.specs.declared.journals.Unread.TheVariants as unread
-use Rattle.journal_runs.proofs.ReadJournals.{cons-rose, now-is, of-one-line, parts-are, tell-journals}
+use Rattle.journal_runs.proofs.ReadJournals.{cons-rose, filers-behind, now-is, of-one-line, parts-are, tell-journals}
 use Rattle.journal_runs.proofs.journals.read_journals.Goals as goal
 
 pub returns-in-Ok-read_filers-clause-read : goal.returns-in-Ok-read_filers-clause-read
@@ -31,3 +31,13 @@ returns-in-Err-read_filers-clause-failed g c = λ is.
     let parts = parts-are c.args.inputs.now first.result.0.now rest c.index-first-0.result first.ensures.front first.ensures.back c.requires in
     let same : c.in-Err-read_filers.unread ≡ unread.ReadFault = cc in
     cons-rose faults c.args.inputs.now rest c.read_filers.new.inputs _ x y parts.0 (now-is first.result.0.now c.read_filers.new.inputs x y parts.1) (c.in-Err-read_filers.ensures.failed (ap (λ (u : Unread). Err u) same))
+
+pub returns-in-Err-read_filers-clause-behind : goal.returns-in-Err-read_filers-clause-behind
+returns-in-Err-read_filers-clause-behind g c =
+    let faults = g.I.Source.faults in
+    let first = c.split_at_mut-first in
+    let x = slice_index_or first.result.0.now 0 c.index-first-0.result in
+    let y = c.read_player.new.input in
+    let rest = first.result.1.now in
+    let parts = parts-are c.args.inputs.now first.result.0.now rest c.index-first-0.result first.ensures.front first.ensures.back c.requires in
+    filers-behind faults c.args.inputs.now rest c.read_filers.new.inputs _ x y parts.0 (now-is first.result.0.now c.read_filers.new.inputs x y parts.1) c.in-Err-read_filers.unread c.in-Err-read_filers.ensures.behind
