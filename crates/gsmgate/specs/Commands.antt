@@ -1,9 +1,9 @@
 -- What each command over files does.
-use Rattle.std.specs.Prelude.{ℕ, List, [], ◌∷◌, Option, None}
+use Rattle.std.specs.Prelude.{ℕ, List, [], ◌∷◌, map, Option, None}
 use Rattle.command_line.specs.declared.line.Command.{Command}
 use Rattle.command_line.specs.declared.line.Command.TheVariants.{Simulate, Decode, Encode, Render, Verify, Make}
 use Rattle.gate_notes.specs.declared.status.Status.{Status}
-use Rattle.gate_notes.specs.Exchange.{Giving, over}
+use Rattle.gate_notes.specs.Exchange.{GainedUnlessFault, Giving, over}
 use Rattle.script_runs.specs.Simulate as simulate
 use Rattle.speech_files.specs.Decode as decode
 use Rattle.speech_files.specs.Encode as encode
@@ -56,11 +56,12 @@ OfOneLeft P (input ∷ []) (left ∷ more ∷ rest) = ⊥
 OfOneLeft P [] left = ⊥
 OfOneLeft P (input ∷ more ∷ inputs) left = ⊥
 
--- where a command over events stops, by what is left of its input: what the events before have given
-abbrev pub StopsAs : Command → Status → List (Option (List ℕ)) → List (Option (List ℕ)) → Giving → Type 0
-StopsAs (Simulate voice) status inputs left x = OfOneLeft (λ input rest. simulate.Stops voice status (over x input) rest) inputs left
-StopsAs (Render seed) status inputs left x = OfOneLeft (λ input rest. render.StopsAt seed status (over x input) rest) inputs left
-StopsAs Decode status inputs left x = Unit {0}
-StopsAs Encode status inputs left x = Unit {0}
-StopsAs Verify status inputs left x = Unit {0}
-StopsAs (Make seed count filers) status inputs left x = Unit {0}
+-- where a command over files stops, by its inputs before and after: of a command over events what those that were read have given, of `verify` that the inputs
+-- behind the one where the reading stopped are as they were
+abbrev pub StopsAs : {D : Type 0} → Command → Status → (D → Option (List ℕ)) → (D → ℕ) → List D → List D → Giving → Type 0
+StopsAs (Simulate voice) status left faults old new x = OfOneLeft (λ input rest. simulate.Stops voice status (over x input) rest) (map left old) (map left new)
+StopsAs (Render seed) status left faults old new x = OfOneLeft (λ input rest. render.StopsAt seed status (over x input) rest) (map left old) (map left new)
+StopsAs Verify status left faults old new x = verify.StopsAtInput status (map left old) faults old new (GainedUnlessFault x.notes x.notes_now x.noted x.noted_now)
+StopsAs Decode status left faults old new x = Unit {0}
+StopsAs Encode status left faults old new x = Unit {0}
+StopsAs (Make seed count filers) status left faults old new x = Unit {0}

@@ -47,7 +47,7 @@ pub fn run_offline<I: Source, O: Sink, E: Sink>(
         } in EndsAs said.command result (map I.left inputs.old.items) x)
         × CompletesAs said.command result (map I.left inputs.old.items) (SomeRose (map I.faults inputs.old.items) (map I.faults inputs.new.items) ⊎ Rose (O.faults output.old) (O.faults output.new) ⊎ Rose (E.faults notes.old) (E.faults notes.new))) }
     ensures stops { (said : FilesSaid) → line_of (map string_bytes words.now.items) ≡ Some (Files said) → fits_files (map string_bytes words.now.items) (length inputs.old.items) ≡ true
-        → (result ≡ Status.OutOfMemory) ⊎ StopsAs said.command result (map I.left inputs.old.items) (map I.left inputs.new.items) (giving (O.given output.old) (O.given output.new) (noting (E.given notes.old) (E.given notes.new) (E.faults notes.old) (E.faults notes.new))) }
+        → (result ≡ Status.OutOfMemory) ⊎ StopsAs said.command result I.left I.faults inputs.old.items inputs.new.items (giving (O.given output.old) (O.given output.new) (noting (E.given notes.old) (E.given notes.new) (E.faults notes.old) (E.faults notes.new))) }
     ensures many { length inputs.new.items ≡ length inputs.old.items }
     ensures read { result ≡ Status.ReadFault → SomeRose (map I.faults inputs.old.items) (map I.faults inputs.new.items) }
     ensures write { result ≡ Status.WriteFault → Rose (O.faults output.old) (O.faults output.new) ⊎ Rose (E.faults notes.old) (E.faults notes.new) }
@@ -84,7 +84,7 @@ fn run_line<I: Source, O: Sink, E: Sink>(
         } in EndsAs said.command result (map I.left inputs.old.items) x)
         × CompletesAs said.command result (map I.left inputs.old.items) (SomeRose (map I.faults inputs.old.items) (map I.faults inputs.new.items) ⊎ Rose (O.faults output.old) (O.faults output.new) ⊎ Rose (E.faults notes.old) (E.faults notes.new)) }
     ensures stops { (said : FilesSaid) → line.now ≡ Files said → (result ≡ Status.Usage → ⊥)
-        → StopsAs said.command result (map I.left inputs.old.items) (map I.left inputs.new.items) (giving (O.given output.old) (O.given output.new) (noting (E.given notes.old) (E.given notes.new) (E.faults notes.old) (E.faults notes.new))) }
+        → StopsAs said.command result I.left I.faults inputs.old.items inputs.new.items (giving (O.given output.old) (O.given output.new) (noting (E.given notes.old) (E.given notes.new) (E.faults notes.old) (E.faults notes.new))) }
     ensures many { length inputs.new.items ≡ length inputs.old.items }
     ensures read { result ≡ Status.ReadFault → SomeRose (map I.faults inputs.old.items) (map I.faults inputs.new.items) }
     ensures write { result ≡ Status.WriteFault → Rose (O.faults output.old) (O.faults output.new) ⊎ Rose (E.faults notes.old) (E.faults notes.new) }
@@ -119,7 +119,7 @@ fn run_over<I: Source, O: Sink, E: Sink>(
           noted_now = E.faults notes.new;
         } in EndsAs line.now.command result (map I.left inputs.old.items) x)
         × CompletesAs line.now.command result (map I.left inputs.old.items) (SomeRose (map I.faults inputs.old.items) (map I.faults inputs.new.items) ⊎ Rose (O.faults output.old) (O.faults output.new) ⊎ Rose (E.faults notes.old) (E.faults notes.new)) }
-    ensures stops { (result ≡ Status.Usage → ⊥) → StopsAs line.now.command result (map I.left inputs.old.items) (map I.left inputs.new.items) (giving (O.given output.old) (O.given output.new) (noting (E.given notes.old) (E.given notes.new) (E.faults notes.old) (E.faults notes.new))) }
+    ensures stops { (result ≡ Status.Usage → ⊥) → StopsAs line.now.command result I.left I.faults inputs.old.items inputs.new.items (giving (O.given output.old) (O.given output.new) (noting (E.given notes.old) (E.given notes.new) (E.faults notes.old) (E.faults notes.new))) }
     ensures many { length inputs.new.items ≡ length inputs.old.items }
     ensures read { result ≡ Status.ReadFault → SomeRose (map I.faults inputs.old.items) (map I.faults inputs.new.items) }
     ensures write { result ≡ Status.WriteFault → Rose (O.faults output.old) (O.faults output.new) ⊎ Rose (E.faults notes.old) (E.faults notes.new) }
@@ -149,7 +149,7 @@ fn run_command<I: Source, O: Sink, E: Sink>(
       noted = E.faults notes.old;
       noted_now = E.faults notes.new;
     } in EndsAs command result (map I.left inputs.old) x }
-    ensures stops { StopsAs command result (map I.left inputs.old) (map I.left inputs.new) (giving (O.given output.old) (O.given output.new) (noting (E.given notes.old) (E.given notes.new) (E.faults notes.old) (E.faults notes.new))) }
+    ensures stops { StopsAs command result I.left I.faults inputs.old inputs.new (giving (O.given output.old) (O.given output.new) (noting (E.given notes.old) (E.given notes.new) (E.faults notes.old) (E.faults notes.new))) }
     ensures line { result ≡ Status.Usage → ⊥ }
     ensures later { NoneFell (map I.faults inputs.old) (map I.faults inputs.new) × (O.faults output.old ≤ O.faults output.new) × (E.faults notes.old ≤ E.faults notes.new) }
     ensures read { result ≡ Status.ReadFault → SomeRose (map I.faults inputs.old) (map I.faults inputs.new) }
@@ -185,7 +185,7 @@ fn run_one<I: Source, O: Sink, E: Sink>(
       noted = E.faults notes.old;
       noted_now = E.faults notes.new;
     } in EndsAs command result (I.left input.old ∷ []) x }
-    ensures stops { StopsAs command result (I.left input.old ∷ []) (I.left input.new ∷ []) (giving (O.given output.old) (O.given output.new) (noting (E.given notes.old) (E.given notes.new) (E.faults notes.old) (E.faults notes.new))) }
+    ensures stops { StopsAs command result I.left I.faults (input.old ∷ []) (input.new ∷ []) (giving (O.given output.old) (O.given output.new) (noting (E.given notes.old) (E.given notes.new) (E.faults notes.old) (E.faults notes.new))) }
     ensures line { result ≡ Status.Usage → ⊥ }
     ensures later { (I.faults input.old ≤ I.faults input.new) × (O.faults output.old ≤ O.faults output.new) × (E.faults notes.old ≤ E.faults notes.new) }
     ensures read { result ≡ Status.ReadFault → Rose (I.faults input.old) (I.faults input.new) }

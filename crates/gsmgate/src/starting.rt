@@ -174,7 +174,7 @@ pub fn run_on<
         ⊎ (EndsAs said.command result.status (map I.left o.inputs.items) (giving (O.given o.output) (O.given p.output) (noting (E.given notes.old) (E.given notes.new) (E.faults notes.old) (E.faults notes.new)))
         × CompletesAs said.command result.status (map I.left o.inputs.items) (SomeRose (map I.faults o.inputs.items) (map I.faults p.inputs.items) ⊎ Rose (O.faults o.output) (O.faults p.output) ⊎ Rose (E.faults notes.old) (E.faults notes.new)))) }
     ensures files_stops { IfFiles started.old started.new (λ o p. (said : FilesSaid) → line_of (map string_bytes o.words.items) ≡ Some (Files said) → fits_files (map string_bytes o.words.items) (length o.inputs.items) ≡ true
-        → (result.status ≡ Status.OutOfMemory) ⊎ StopsAs said.command result.status (map I.left o.inputs.items) (map I.left p.inputs.items) (giving (O.given o.output) (O.given p.output) (noting (E.given notes.old) (E.given notes.new) (E.faults notes.old) (E.faults notes.new)))) }
+        → (result.status ≡ Status.OutOfMemory) ⊎ StopsAs said.command result.status I.left I.faults o.inputs.items p.inputs.items (giving (O.given o.output) (O.given p.output) (noting (E.given notes.old) (E.given notes.new) (E.faults notes.old) (E.faults notes.new)))) }
     ensures files_many { IfFiles started.old started.new (λ o p. length p.inputs.items ≡ length o.inputs.items) }
     ensures files_read { IfFiles started.old started.new (λ o p. result.status ≡ Status.ReadFault → SomeRose (map I.faults o.inputs.items) (map I.faults p.inputs.items)) }
     ensures files_write { IfFiles started.old started.new (λ o p. result.status ≡ Status.WriteFault → Rose (O.faults o.output) (O.faults p.output) ⊎ Rose (E.faults notes.old) (E.faults notes.new)) }

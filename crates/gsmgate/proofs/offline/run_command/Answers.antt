@@ -19,8 +19,8 @@ returns-in_default g c =
     let giving : Giving = record { output = g.O.Sink.given c.args.output.now; output_now = g.O.Sink.given c.run_one.new.output; notes = g.E.Sink.given c.args.notes.now; notes_now = g.E.Sink.given c.run_one.new.notes; noted = g.E.Sink.faults c.args.notes.now; noted_now = g.E.Sink.faults c.run_one.new.notes } in
     record {
       ends = subst (λ (l : List g.row.I.Denot). EndsAs c.args.command c.run_one.result (map left l) giving) (sym before) c.run_one.ensures.ends;
-      stops = subst (λ (l : List g.row.I.Denot). StopsAs c.args.command c.run_one.result (map left l) (map left (slice_set inputs 0 y)) giving) (sym before)
-          (subst (λ (l : List g.row.I.Denot). StopsAs c.args.command c.run_one.result (left x ∷ []) (map left l) giving) (sym now) c.run_one.ensures.stops);
+      stops = subst (λ (l : List g.row.I.Denot). StopsAs c.args.command c.run_one.result left faults l (slice_set inputs 0 y) giving) (sym before)
+          (subst (λ (l : List g.row.I.Denot). StopsAs c.args.command c.run_one.result left faults (x ∷ []) l giving) (sym now) c.run_one.ensures.stops);
       line = c.run_one.ensures.line;
       later = (one-fell faults inputs (slice_set inputs 0 y) x y before now c.run_one.ensures.later.0, c.run_one.ensures.later.1, c.run_one.ensures.later.2);
       read = λ is. one-rose faults inputs (slice_set inputs 0 y) x y before now (c.run_one.ensures.read is);
