@@ -12,7 +12,8 @@ use gate_io::{Failed, Sink};
 use playout::PlayerSide;
 use recorder::{PlayEvent, play_event_of, write_play};
 
-/// What a beat found: what it is to play, and a base that it saw for it.
+/// What a beat found: what it is to play, and a base that it saw for it. A base is an RTP timestamp, at 8 kHz; an item
+/// is 20 ms of speech, and that of a tick is never `Idle`.
 #[derive(Clone, Copy, Debug, PartialEq, Eq)]
 pub enum Found {
     /// No base is held yet.
@@ -24,6 +25,7 @@ pub enum Found {
 }
 
 /// Asks the side: whether a base is held, as long as none was seen and no tick made, and then for the next item.
+/// `opened` says whether a base was seen or a tick made before. One tick is made at most, and without a base none.
 pub fn look<S: PlayerSide>(opened: bool, side: &mut S) -> Found
     requires position { S.position side.old < 2 ^ 33 }
     ensures looks { Looks opened result }
@@ -43,7 +45,7 @@ pub fn look<S: PlayerSide>(opened: bool, side: &mut S) -> Found
     }
 }
 
-/// The item that is played.
+/// The item that is played: `Idle` where no base is held.
 pub fn item_of_found(found: &Found) -> Item
     ensures { result ≡ item_of found.now }
 {
@@ -54,7 +56,7 @@ pub fn item_of_found(found: &Found) -> Item
     }
 }
 
-/// Whether a base was seen or a tick made.
+/// Whether a base was seen or a tick made. `look` is told so from then on.
 pub fn opens(found: &Found) -> bool
     ensures { result ≡ is_open found.now }
 {
@@ -65,7 +67,8 @@ pub fn opens(found: &Found) -> bool
     }
 }
 
-/// Gives the journal the events of what was found, each in one give.
+/// Gives the journal the events of what was found, each in one give: an Idle, of one octet; a Base, of five; or a tick's
+/// item, of one or 34. `Failed` comes from the journal, which then has a front of them.
 pub fn write_found<J: Sink>(found: &Found, journal: &mut J) -> Result<(), Failed>
     ensures given { Gives (J.given journal.old) (J.given journal.new) result (flat_map call_text (calls_of found.now)) }
     ensures cause { HasCause (J.faults journal.old) (J.faults journal.new) result }

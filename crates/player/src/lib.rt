@@ -9,6 +9,7 @@ mod return_stream;
 mod run;
 
 pub use beat::Beat;
+pub use found::{Found, item_of_found, look, opens, write_found};
 pub use pieces::take_piece;
 pub use player::Player;
 pub use recorder::PlayTally;

@@ -1,34 +1,36 @@
 -- What one event comes to.
-use Rattle.std.proofs.Common.{◌≡◌, ℕ, ◌<◌, ◌^◌, Bool, true, false, List, [], ◌∷◌, ◌++◌, length, Some, None, slice_get, slice_set, refl, sym, ap, subst, ◌∙◌, append-nil, inl, inr, arith}
+use Rattle.std.proofs.Common.{◌≡◌, ℕ, ◌+◌, ◌<◌, ◌≤◌, ◌^◌, Bool, ◌||◌, true, false, List, [], ◌∷◌, ◌++◌, length, Some, slice_get, slice_set, refl, sym, ap, subst, ◌∙◌, append-nil, inl, inr, arith}
 use Rattle.std.proofs.lemmas.Bool.{eq-eqb, ne_eqb}
 use Rattle.std.proofs.lemmas.List.{length-set}
 use Rattle.std.specs.List.{flat_map}
 use Rattle.frame_codec.specs.declared.item.Item.{Item}
-use Rattle.frame_codec.specs.declared.item.Item.TheVariants.{Idle}
 use Rattle.playout.specs.declared.reply.FileReply.{FileReply}
 use Rattle.playout.specs.declared.call.Call.{Call}
-use Rattle.playout.specs.declared.call.Call.TheVariants.{FileCall, PeekCall, TickCall}
+use Rattle.playout.specs.declared.call.Call.TheVariants.{FileCall}
 use Rattle.playout.specs.Line.{Line, FilerSteps, Steps}
-use Rattle.playout.specs.History.{Chained, Entry, IsLegal, after_all, entry, calls, calls_of}
-use Rattle.recorder.specs.declared.events.ScriptEvent.TheVariants.{Tick, File, Datagram, Beat}
+use Rattle.playout.specs.History.{Chained, Entry, IsLegal, after_all, entry, calls, calls_of, ticks}
+use Rattle.recorder.specs.declared.events.ScriptEvent.TheVariants.{File, Datagram, Beat}
 use Rattle.recorder.specs.Tallies.{call_items, call_replies, play_tally, item_counted, reply_counted}
 use Rattle.recorder.specs.TallyLaws.{play_tally-more}
 use Rattle.recorder.specs.declared.tally.Tally.{Tally}
 use Rattle.filer.specs.declared.outcome.Outcome.{Outcome}
 use Rattle.filer.specs.Takes as takes
-use Rattle.script_runs.specs.Applies.{Applies, callers_of}
-use Rattle.script_runs.specs.Calls.{Callers, Ended, IsBeat, IsTick, Turn, bare, made_by}
+use Rattle.player.specs.declared.found.Found.{Found}
+use Rattle.player.specs.declared.found.Found.TheVariants.{Nothing, First, Next}
+use Rattle.player.specs.Beats.{Looks, is_open, item_of}
+use Rattle.player.specs.Beats as beats
+use Rattle.script_runs.specs.Applies.{Applies, Plays, callers_of}
+use Rattle.script_runs.specs.Calls.{Callers, Ended, IsBeat, Turn, bare, made_by}
 use Rattle.script_runs.specs.Counts.{run_tally}
+use Rattle.script_runs.specs.TurnLines.{turn_lines}
 use Rattle.script_runs.specs.declared.run.Run.{Run}
 use Rattle.script_runs.proofs.Counting.{datagram-more, ended, reply-more}
 use Rattle.script_runs.proofs.Steps.{filed-position, position-stays, replies-told}
 
--- the list of the caller of a call, and of another
-pub calls_of-own : (who : ℕ) (c : Call) → calls_of who (entry who c ∷ []) ≡ c ∷ []
-calls_of-own who c = rw (eq-eqb who who refl) refl
-
-pub calls_of-two : (who : ℕ) (c d : Call) → calls_of who (entry who c ∷ entry who d ∷ []) ≡ c ∷ d ∷ []
-calls_of-two who c d = rw (eq-eqb who who refl) refl
+-- the list of the caller of calls, and of another
+pub calls_of-own : (who : ℕ) (cs : List Call) → calls_of who (made_by who cs) ≡ cs
+calls_of-own who [] = refl
+calls_of-own who (c ∷ cs) = rw (eq-eqb who who refl) (ap (λ (l : List Call). c ∷ l) (calls_of-own who cs))
 
 pub calls_of-other : (who other : ℕ) (c : Call) → other < who → calls_of who (entry other c ∷ []) ≡ []
 calls_of-other who other c lt = rw (ne_eqb other who (λ same. omega arith)) refl
@@ -58,74 +60,85 @@ one-item : (who : ℕ) (old new : Run) (made : List Entry) (item : Item) → new
 one-item who old new made item counted gives items is =
     counted ∙ ap (λ t. item_counted t item) is ∙ sym (play_tally-more items item) ∙ ap (λ (l : List Item). play_tally (items ++ l)) (sym gives)
 
--- a tick
-pub tick_applies : (old new : Run) (item : Item) → Steps old.line (TickCall item) new.line → new.filers.items ≡ old.filers.items → new.ticked ≡ true → new.played ≡ item_counted old.played item
-    → new.filed ≡ old.filed → Applies Tick old new (bare (entry old.line.filers (TickCall item) ∷ []))
-tick_applies old new item step filers ticked played filed =
+-- ---- the player's turn
+
+-- what a beat found is one item, no reply and no line, and at most one tick
+pub found-items : (found : Found) → flat_map call_items (beats.calls_of found) ≡ item_of found ∷ []
+found-items Nothing = refl
+found-items (First base item) = refl
+found-items (Next item) = refl
+
+found-replies : (player : ℕ) (found : Found) → flat_map call_replies (calls (made_by player (beats.calls_of found))) ≡ []
+found-replies player Nothing = refl
+found-replies player (First base item) = refl
+found-replies player (Next item) = refl
+
+pub found-lines : (player : ℕ) (found : Found) → turn_lines (bare (made_by player (beats.calls_of found))) ≡ []
+found-lines player Nothing = refl
+found-lines player (First base item) = refl
+found-lines player (Next item) = refl
+
+found-slow : (found : Found) → ticks (beats.calls_of found) ≤ 1
+found-slow Nothing = omega arith
+found-slow (First base item) = omega arith
+found-slow (Next item) = omega arith
+
+or-true : (b : Bool) → (b || true) ≡ true
+or-true true = refl
+or-true false = refl
+
+or-false : (b : Bool) → (b || false) ≡ b
+or-false true = refl
+or-false false = refl
+
+found-turn : (opened : Bool) (player : ℕ) (before after : Callers) (found : Found) → Looks opened found → after ≡ record before { ticked = before.ticked || is_open found }
+    → IsBeat opened player before (bare (made_by player (beats.calls_of found))) after
+found-turn opened player before after Nothing looks known =
+    let turn : Turn = bare (made_by player (beats.calls_of Nothing)) in
+    subst (λ (b : Bool). IsBeat b player before turn after) (sym looks) (inl (refl, known ∙ ap (λ (b : Bool). record before { ticked = b }) (or-false before.ticked)))
+found-turn opened player before after (First base item) looks known =
+    let turn : Turn = bare (made_by player (beats.calls_of (First base item))) in
+    subst (λ (b : Bool). IsBeat b player before turn after) (sym looks.0) (inr (base, item, refl, known ∙ ap (λ (b : Bool). record before { ticked = b }) (or-true before.ticked)))
+found-turn opened player before after (Next item) looks known =
+    let turn : Turn = bare (made_by player (beats.calls_of (Next item))) in
+    subst (λ (b : Bool). IsBeat b player before turn after) (sym looks.0) (item, refl, known ∙ ap (λ (b : Bool). record before { ticked = b }) (or-true before.ticked))
+
+-- calls on a line, one after the other, are calls of its machine
+line-legal : (who : ℕ) (before after : Line) (cs : List Call) → Chained Steps before cs after → IsLegal (2 ^ before.g) before.machine (made_by who cs)
+line-legal who before after [] done = tt
+line-legal who before after (c ∷ cs) (mid, step, rest) = (step.0, subst (λ (l : Line). IsLegal (2 ^ l.g) l.machine (made_by who cs)) step.1 (line-legal who mid after cs rest))
+
+line-after : (who : ℕ) (before after : Line) (cs : List Call) → Chained Steps before cs after → after ≡ record before { machine = after_all before.machine (made_by who cs) }
+line-after who before after [] done = sym done
+line-after who before after (c ∷ cs) (mid, step, rest) = line-after who mid after cs rest ∙ ap (λ (l : Line). record l { machine = after_all l.machine (made_by who cs) }) step.1
+
+-- what the player found was played; its side was made of the line, and given back
+pub plays : (opened seen : Bool) (old new : Run) (made now : Line) (found : Found) (item : Item) → made ≡ old.line → new.line ≡ now → Looks opened found
+    → Chained Steps made (beats.calls_of found) now → now.machine.position ≡ made.machine.position + ticks (beats.calls_of found) → new.filers.items ≡ old.filers.items
+    → seen ≡ is_open found → new.ticked ≡ (old.ticked || seen) → item ≡ item_of found → new.played ≡ item_counted old.played item → new.filed ≡ old.filed
+    → Plays opened old new (bare (made_by old.line.filers (beats.calls_of found)))
+plays opened seen old new made now found item begun back looks chained position filers opens ticked is played filed =
     let player = old.line.filers in
-    let made = entry player (TickCall item) ∷ [] in
+    let cs = beats.calls_of found in
+    let calls_on : Chained Steps old.line cs new.line = subst (λ (l : Line). Chained Steps l cs new.line) begun (subst (λ (l : Line). Chained Steps made cs l) (sym back) chained) in
+    let known = ticked ∙ ap (λ (b : Bool). old.ticked || b) opens in
+    let counted = played ∙ ap (λ (i : Item). item_counted old.played i) is in
+    let place : Line → ℕ = λ l. l.machine.position in
     record {
-      is_turn = (item, refl, λ i. record { filers = filers i; ticked = ticked i });
-      legal = (step.0, tt);
-      line = step.1;
-      slow = omega (arith, ap (λ (l : Line). l.machine.position) step.1);
+      is_turn = found-turn opened player (callers_of old) (callers_of new) found looks (λ i. record { filers = filers i; ticked = known i });
+      legal = line-legal player old.line new.line cs calls_on;
+      line = line-after player old.line new.line cs calls_on;
+      slow = omega (arith, ap place back, position, ap place begun, found-slow found);
       filers = ap length filers;
-      played = one-item player old new made item played (ap (flat_map call_items) (calls_of-own player (TickCall item)));
-      filed = kept-replies old new filed;
+      played = one-item player old new (made_by player cs) (item_of found) counted (ap (flat_map call_items) (calls_of-own player cs) ∙ found-items found);
+      filed = λ ends replies is. kept-replies old new filed ends replies is ∙ ap (λ (l : List FileReply). run_tally (ends ++ []) (replies ++ l)) (sym (found-replies player found));
     }
 
--- where the player has made a tick
-beat-later : (b : Bool) (player : ℕ) (before : Callers) (turn : Turn) (after : Callers) → b ≡ true → IsTick player before turn after → IsBeat b player before turn after
-beat-later true player before turn after is p = p
-beat-later false player before turn after is p = absurd (ne is)
-  where
-    ne : false ≡ true → ⊥
-    ne e = cc
+-- a beat of a player that knows of its own ticks
+pub beat-applies : (old new : Run) (turn : Turn) → Plays old.ticked old new turn → Applies Beat old new turn
+beat-applies old new turn a = record { is_turn = a.is_turn; legal = a.legal; line = a.line; slow = a.slow; filers = a.filers; played = a.played; filed = a.filed }
 
--- a beat of a player that has made a tick is a tick
-pub later_beat_applies : (old new : Run) (turn : Turn) → old.ticked ≡ true → Applies Tick old new turn → Applies Beat old new turn
-later_beat_applies old new turn ticked a = record {
-  is_turn = beat-later old.ticked old.line.filers (callers_of old) turn (callers_of new) ticked a.is_turn;
-  legal = a.legal;
-  line = a.line;
-  slow = a.slow;
-  filers = a.filers;
-  played = a.played;
-  filed = a.filed;
-}
-
--- a beat without a base
-pub idle_applies : (old new : Run) → old.ticked ≡ false → old.line.machine.base ≡ None → new.line ≡ old.line → new.filers.items ≡ old.filers.items → new.ticked ≡ old.ticked
-    → new.played ≡ item_counted old.played Idle → new.filed ≡ old.filed → Applies Beat old new (bare (entry old.line.filers (PeekCall None) ∷ []))
-idle_applies old new fresh none line filers ticked played filed =
-    let player = old.line.filers in
-    let turn : Turn = bare (entry player (PeekCall None) ∷ []) in
-    record {
-      is_turn = subst (λ (b : Bool). IsBeat b player (callers_of old) turn (callers_of new)) (sym fresh) (inl (refl, same-callers old new filers ticked));
-      legal = (sym none, tt);
-      line = line;
-      slow = omega (arith, ap (λ (l : Line). l.machine.position) line);
-      filers = ap length filers;
-      played = one-item player old new turn.calls Idle played (ap (flat_map call_items) (calls_of-own player (PeekCall None)));
-      filed = kept-replies old new filed;
-    }
-
--- the beat that sees the base
-pub first_applies : (old new : Run) (base : ℕ) (item : Item) → old.ticked ≡ false → old.line.machine.base ≡ Some base → Steps old.line (TickCall item) new.line → new.filers.items ≡ old.filers.items
-    → new.ticked ≡ true → new.played ≡ item_counted old.played item → new.filed ≡ old.filed
-    → Applies Beat old new (bare (entry old.line.filers (PeekCall (Some base)) ∷ entry old.line.filers (TickCall item) ∷ []))
-first_applies old new base item fresh some step filers ticked played filed =
-    let player = old.line.filers in
-    let turn : Turn = bare (entry player (PeekCall (Some base)) ∷ entry player (TickCall item) ∷ []) in
-    record {
-      is_turn = subst (λ (b : Bool). IsBeat b player (callers_of old) turn (callers_of new)) (sym fresh) (inr (base, item, refl, λ i. record { filers = filers i; ticked = ticked i }));
-      legal = (sym some, (step.0, tt));
-      line = step.1;
-      slow = omega (arith, ap (λ (l : Line). l.machine.position) step.1);
-      filers = ap length filers;
-      played = one-item player old new turn.calls item played (ap (flat_map call_items) (calls_of-two player (PeekCall (Some base)) (TickCall item)));
-      filed = kept-replies old new filed;
-    }
+-- ---- the turns of filers
 
 -- a filer's bare call
 pub file_applies : (old new : Run) (caller number : ℕ) (frame : List ℕ) (reply : FileReply) → caller < old.line.filers
@@ -143,16 +156,10 @@ file_applies old new caller number frame reply lt step filers ticked played file
       filed = λ ends replies is. filed ∙ ap (λ t. reply_counted t reply) is ∙ sym (reply-more ends replies reply) ∙ ap (λ (l : List Ended). run_tally l (replies ++ reply ∷ [])) (sym (append-nil ends));
     }
 
--- a filer's calls over its side are calls of the machine
-side-legal : (who : ℕ) (before after : Line × ℕ) (cs : List Call) → Chained FilerSteps before cs after → IsLegal (2 ^ before.0.g) before.0.machine (made_by who cs)
-side-legal who before after [] done = tt
-side-legal who before after (c ∷ cs) (mid, step, rest) =
-    (step.0.0, subst (λ (l : Line). IsLegal (2 ^ l.g) l.machine (made_by who cs)) step.0.1 (side-legal who mid after cs rest))
-
-side-after : (who : ℕ) (before after : Line × ℕ) (cs : List Call) → Chained FilerSteps before cs after → after.0 ≡ record before.0 { machine = after_all before.0.machine (made_by who cs) }
-side-after who before after [] done = ap (λ (p : Line × ℕ). p.0) (sym done)
-side-after who before after (c ∷ cs) (mid, step, rest) =
-    side-after who mid after cs rest ∙ ap (λ (l : Line). record l { machine = after_all l.machine (made_by who cs) }) step.0.1
+-- a filer's calls over its side are calls on its line
+side-line : (before after : Line × ℕ) (cs : List Call) → Chained FilerSteps before cs after → Chained Steps before.0 cs after.0
+side-line before after [] done = ap (λ (p : Line × ℕ). p.0) done
+side-line before after (c ∷ cs) (mid, step, rest) = (mid.0, step.0, side-line mid after cs rest)
 
 -- a datagram
 pub datagram_applies : (old new : Run) (caller at : ℕ) (octets : List ℕ) (o : Outcome) (k later : takes.Known) (side : Line × ℕ) → caller < old.line.filers
@@ -161,11 +168,12 @@ pub datagram_applies : (old new : Run) (caller at : ℕ) (octets : List ℕ) (o 
     → Applies (Datagram caller at octets) old new (record { calls = made_by caller (takes.calls_of k octets at o); ends = ended caller o.end ∷ [] })
 datagram_applies old new caller at octets o k later side lt is_known filers taken chained line ticked played filed =
     let cs = takes.calls_of k octets at o in
-    let now : new.line ≡ record old.line { machine = after_all old.line.machine (made_by caller cs) } = line ∙ side-after caller (old.line, caller) side cs chained in
+    let on_line = side-line (old.line, caller) side cs chained in
+    let now : new.line ≡ record old.line { machine = after_all old.line.machine (made_by caller cs) } = line ∙ line-after caller old.line side.0 cs on_line in
     let told : flat_map call_replies (calls (made_by caller cs)) ≡ takes.files_told o.end = ap (flat_map call_replies) (calls-made caller cs) ∙ replies-told k octets at o later taken in
     record {
       is_turn = record { outcome = o; known = k; later = later; is_known = is_known; taken = taken; made = refl; left = λ i. record { filers = filers i; ticked = ticked i } };
-      legal = side-legal caller (old.line, caller) side cs chained;
+      legal = line-legal caller old.line side.0 cs on_line;
       line = now;
       slow = omega (arith, ap (λ (l : Line). l.machine.position) now, position-stays k octets at o later taken caller old.line.machine);
       filers = ap length filers ∙ length-set old.filers.items caller later;

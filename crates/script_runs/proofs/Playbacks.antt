@@ -7,18 +7,20 @@ use Rattle.std.proofs.lemmas.List.Concat.{flat_map-append}
 use Rattle.byteorder.specs.Endian.{little_bytes}
 use Rattle.frame_codec.specs.declared.item.Item.{Item}
 use Rattle.playout.specs.declared.call.Call.{Call}
-use Rattle.playout.specs.declared.call.Call.TheVariants.{PeekCall, TickCall}
-use Rattle.playout.specs.History.{Entry, calls_of, entry}
+use Rattle.playout.specs.History.{Entry, calls_of}
 use Rattle.gate_io.specs.Flow.{Gives}
 use Rattle.substitution.specs.Heard.{Sounding, Voices, sample_octets}
 use Rattle.recorder.specs.Heads.{Heading, head_text, play_magic}
-use Rattle.recorder.specs.declared.events.PlayEvent.TheVariants.{Base}
-use Rattle.recorder.specs.Play.{call_text, event_of_item, play_event_text}
+use Rattle.recorder.specs.Play.{call_text}
 use Rattle.recorder.specs.Tallies.{call_items}
 use Rattle.std.specs.List.{flat_map}
+use Rattle.player.specs.declared.found.Found.{Found}
+use Rattle.player.specs.Beats.{item_of}
+use Rattle.player.specs.Beats as beats
+use Rattle.script_runs.specs.Calls.{made_by}
 use Rattle.script_runs.specs.declared.playback.Playback.{Playback}
 use Rattle.script_runs.specs.declared.playback.Playback.TheVariants.{Journal, Pcm}
-use Rattle.script_runs.proofs.Events.{calls_of-own, calls_of-two}
+use Rattle.script_runs.proofs.Events.{calls_of-own, found-items}
 use Rattle.script_runs.specs.Playing.{GoesOn, IsPlayed, Stands, end_text, ending, front_text}
 
 -- the same of equal parts
@@ -75,20 +77,13 @@ is-ending (Some seed) journal items text (Pcm v) s = refl
 pub GoesOn-as : (j j' : List ℕ) (is is' : List Item) (a b : Playback) (t : List ℕ) → j' ≡ j → is' ≡ is → GoesOn j is a b t → GoesOn j' is' a b t
 GoesOn-as j j' is is' a b t p q on = subst (λ (l : List ℕ). GoesOn l is' a b t) (sym p) (subst (λ (l : List Item). GoesOn j l a b t) (sym q) on)
 
--- by one call of the player, and by two of which the first has no item
-pub call-goes-on : (player : ℕ) (c : Call) (item : Item) (a b : Playback) (t : List ℕ) → call_items c ≡ item ∷ [] → GoesOn (call_text c) (item ∷ []) a b t
-    → GoesOn (flat_map call_text (calls_of player (entry player c ∷ []))) (flat_map call_items (calls_of player (entry player c ∷ []))) a b t
-call-goes-on player c item a b t one on =
-    GoesOn-as (call_text c) (flat_map call_text (calls_of player (entry player c ∷ []))) (item ∷ []) (flat_map call_items (calls_of player (entry player c ∷ []))) a b t
-    (ap (flat_map call_text) (calls_of-own player c) ∙ append-nil (call_text c)) (ap (flat_map call_items) (calls_of-own player c) ∙ append-nil (call_items c) ∙ one) on
-
-pub first-goes-on : (player base : ℕ) (item : Item) (a b : Playback) (t : List ℕ) → GoesOn (play_event_text (Base base) ++ play_event_text (event_of_item item)) (item ∷ []) a b t
-    → GoesOn (flat_map call_text (calls_of player (entry player (PeekCall (Some base)) ∷ entry player (TickCall item) ∷ []))) (flat_map call_items (calls_of player (entry player (PeekCall (Some base)) ∷ entry player (TickCall item) ∷ []))) a b t
-first-goes-on player base item a b t on =
-    let made = entry player (PeekCall (Some base)) ∷ entry player (TickCall item) ∷ [] in
-    GoesOn-as (play_event_text (Base base) ++ play_event_text (event_of_item item)) (flat_map call_text (calls_of player made)) (item ∷ []) (flat_map call_items (calls_of player made)) a b t
-    (ap (flat_map call_text) (calls_of-two player (PeekCall (Some base)) (TickCall item)) ∙ ap (λ (l : List ℕ). play_event_text (Base base) ++ l) (append-nil (play_event_text (event_of_item item))))
-    (ap (flat_map call_items) (calls_of-two player (PeekCall (Some base)) (TickCall item))) on
+-- by what the player found
+pub found-goes-on : (player : ℕ) (found : Found) (a b : Playback) (t : List ℕ) → GoesOn (flat_map call_text (beats.calls_of found)) (item_of found ∷ []) a b t
+    → GoesOn (flat_map call_text (calls_of player (made_by player (beats.calls_of found)))) (flat_map call_items (calls_of player (made_by player (beats.calls_of found)))) a b t
+found-goes-on player found a b t on =
+    let cs = beats.calls_of found in
+    GoesOn-as (flat_map call_text cs) (flat_map call_text (calls_of player (made_by player cs))) (item_of found ∷ []) (flat_map call_items (calls_of player (made_by player cs))) a b t
+    (ap (flat_map call_text) (calls_of-own player cs)) (ap (flat_map call_items) (calls_of-own player cs) ∙ found-items found) on
 
 -- by calls of which none is the player's
 pub silent-goes-on : (player : ℕ) (made : List Entry) (p : Playback) → calls_of player made ≡ []

@@ -1,17 +1,19 @@
 // What becomes of the player's beats.
 ghost use Rattle.std.specs.Prelude.{◌≡◌, ◌∷◌, ◌++◌, [], List, ℕ, ℤ};
+ghost use Rattle.std.specs.List.{flat_map};
 ghost use Rattle.gate_base.specs.Faults.{HasCause};
 ghost use Rattle.gate_io.specs.Flow.{Gives};
 ghost use Rattle.frame_codec.specs.declared.item.Item.{Item};
 ghost use Rattle.substitution.specs.Heard.{Voices, sample_octets};
-ghost use Rattle.recorder.specs.Play.{event_of_item, play_event_text};
-ghost use Rattle.recorder.specs.declared.events.PlayEvent.TheVariants.{Base};
+ghost use Rattle.recorder.specs.Play.{call_text};
+ghost use Rattle.player.specs.Beats.{calls_of, item_of};
 ghost use Rattle.script_runs.specs.Playing.{GoesOn, Stands, end_text, front_text};
 
 use byteorder::{ByteOrder, LittleEndian};
 use frame_codec::Item;
 use gate_io::{Failed, Sink};
-use recorder::{Head, PlayEvent, play_event_of, write_end, write_play, write_play_head};
+use player::{Found, item_of_found, write_found};
+use recorder::{Head, write_end, write_play_head};
 use substitution::Voice;
 
 /// Gives what the player does to an output: as the events of its journal, or as the speech that is heard.
@@ -46,34 +48,16 @@ impl Playback {
         }
     }
 
-    /// Gives an item that the player played: of a tick, or `Idle` of a beat without a base.
-    pub fn item<O: Sink>(&mut self, item: Item, output: &mut O) -> Result<(), Failed>
-        ensures played { (text : List ℕ) × GoesOn (play_event_text (event_of_item item)) (item ∷ []) self.old self.new text
+    /// Gives what the player found: to a journal its events, each in one give, or the 160 samples of its item in one.
+    pub fn found<O: Sink>(&mut self, found: &Found, output: &mut O) -> Result<(), Failed>
+        ensures played { (text : List ℕ) × GoesOn (flat_map call_text (calls_of found.now)) (item_of found.now ∷ []) self.old self.new text
             × Gives (O.given output.old) (O.given output.new) result text }
         ensures cause { HasCause (O.faults output.old) (O.faults output.new) result }
         ensures kin { O.kin output.old output.new }
     {
         match self {
-            Playback::Journal => write_play(&play_event_of(item), output),
-            Playback::Pcm(voice) => speak(voice, item, output),
-        }
-    }
-
-    /// Gives the base that the player saw, and then the item of its first tick.
-    pub fn first_item<O: Sink>(
-        &mut self,
-        base: u32,
-        item: Item,
-        output: &mut O,
-    ) -> Result<(), Failed>
-        ensures played { (text : List ℕ) × GoesOn (play_event_text (Base base) ++ play_event_text (event_of_item item)) (item ∷ []) self.old self.new text
-            × Gives (O.given output.old) (O.given output.new) result text }
-        ensures cause { HasCause (O.faults output.old) (O.faults output.new) result }
-        ensures kin { O.kin output.old output.new }
-    {
-        match self {
-            Playback::Journal => write_first(base, item, output),
-            Playback::Pcm(voice) => speak(voice, item, output),
+            Playback::Journal => write_found(found, output),
+            Playback::Pcm(voice) => speak(voice, item_of_found(found), output),
         }
     }
 
@@ -87,18 +71,6 @@ impl Playback {
             Playback::Journal => write_end(output),
             Playback::Pcm(_) => Ok(()),
         }
-    }
-}
-
-// Writes a base and the item behind it to a journal.
-fn write_first<O: Sink>(base: u32, item: Item, output: &mut O) -> Result<(), Failed>
-    ensures given { Gives (O.given output.old) (O.given output.new) result (play_event_text (Base base) ++ play_event_text (event_of_item item)) }
-    ensures cause { HasCause (O.faults output.old) (O.faults output.new) result }
-    ensures kin { O.kin output.old output.new }
-{
-    match write_play(&PlayEvent::Base { base }, output) {
-        Ok(()) => write_play(&play_event_of(item), output),
-        Err(Failed) => Err(Failed),
     }
 }
 

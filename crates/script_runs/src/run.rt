@@ -1,12 +1,12 @@
 // A script's run as it goes on.
-ghost use Rattle.std.specs.Prelude.{◌≡◌, ◌≤◌, ◌<◌, ◌^◌, ◌⊎◌, ◌++◌, List, OnErr, IfOk, ℕ, [], length, false, None, Some};
+ghost use Rattle.std.specs.Prelude.{◌≡◌, ◌≤◌, ◌<◌, ◌^◌, ◌⊎◌, ◌++◌, List, OnErr, IfOk, ℕ, [], length, false};
 ghost use Rattle.std.specs.List.{flat_map};
 ghost use Rattle.gate_base.specs.Faults.{HasCause, Rose};
 ghost use Rattle.gate_io.specs.Flow.{Gives};
 ghost use Rattle.playout.specs.History.{calls_of};
 ghost use Rattle.recorder.specs.Play.{call_text};
 ghost use Rattle.recorder.specs.Tallies.{call_items, no_plays, no_tally};
-ghost use Rattle.recorder.specs.declared.events.ScriptEvent.TheVariants.{Tick, File, Datagram, Beat};
+ghost use Rattle.recorder.specs.declared.events.ScriptEvent.TheVariants.{File, Datagram};
 ghost use Rattle.script_runs.specs.Calls.{IsCallable, Turn};
 ghost use Rattle.script_runs.specs.TurnLines.{turn_lines};
 ghost use Rattle.script_runs.specs.Playing.{GoesOn};
@@ -16,10 +16,11 @@ ghost use Rattle.script_runs.specs.declared.run.Run.{Run};
 use crate::filers::take_by;
 use crate::playback::Playback;
 use filer::{Filer, count_end};
-use frame_codec::{Frame33, Item};
+use frame_codec::Frame33;
 use gate_io::{Failed, Sink};
 use gate_notes::{give_end, give_reply};
-use playout::{MapFiler, MapLine};
+use player::{item_of_found, look, opens};
+use playout::{MapFiler, MapLine, MapPlayer};
 use recorder::{Packet, PlayTally, ScriptEvent, Tally};
 
 /// A script's run: the line that its events call, the callers' states, and what was counted of the calls.
@@ -35,7 +36,7 @@ pub struct Run {
 }
 
 impl Run {
-    ghost use Rattle.script_runs.specs.Applies.{Applies};
+    ghost use Rattle.script_runs.specs.Applies.{Applies, Plays};
 
     /// A run before its first event.
     pub fn new(line: MapLine, filers: Vec<Filer>) -> Run
@@ -71,7 +72,7 @@ impl Run {
         ensures kin { O.kin output.old output.new × E.kin notes.old notes.new }
     {
         match event {
-            ScriptEvent::Tick => self.tick(playback, output),
+            ScriptEvent::Tick => self.play(true, playback, output),
             ScriptEvent::File {
                 caller,
                 number,
@@ -80,89 +81,47 @@ impl Run {
             ScriptEvent::Datagram { caller, at, octets } => {
                 self.datagram(*caller, *at, octets, notes)
             }
-            ScriptEvent::Beat => self.beat(playback, output),
+            ScriptEvent::Beat => {
+                let opened = self.ticked;
+                self.play(opened, playback, output)
+            }
         }
     }
 
-    // The player's tick.
-    fn tick<O: Sink>(mut self, playback: &mut Playback, output: &mut O) -> Result<Run, Failed>
-        requires position { self.line.machine.position < 2 ^ 33 }
-        ensures applied { (new : Run) × (turn : Turn) × (text : List ℕ) × Applies Tick self new turn × IfOk result (λ run. run ≡ new)
-            × GoesOn (flat_map call_text (calls_of self.line.filers turn.calls)) (flat_map call_items (calls_of self.line.filers turn.calls)) playback.old playback.new text
-            × Gives (O.given output.old) (O.given output.new) result text
-            × (turn_lines turn ≡ []) }
-        ensures cause { HasCause (O.faults output.old) (O.faults output.new) result }
-        ensures kin { O.kin output.old output.new }
-    {
-        let item = self.line.tick();
-        self.played.item(&item);
-        self.ticked = true;
-        match playback.item(item, output) {
-            Ok(()) => Ok(self),
-            Err(Failed) => Err(Failed),
-        }
-    }
-
-    // The player's beat.
-    fn beat<O: Sink>(self, playback: &mut Playback, output: &mut O) -> Result<Run, Failed>
-        requires position { self.line.machine.position < 2 ^ 33 }
-        ensures applied { (new : Run) × (turn : Turn) × (text : List ℕ) × Applies Beat self new turn × IfOk result (λ run. run ≡ new)
-            × GoesOn (flat_map call_text (calls_of self.line.filers turn.calls)) (flat_map call_items (calls_of self.line.filers turn.calls)) playback.old playback.new text
-            × Gives (O.given output.old) (O.given output.new) result text
-            × (turn_lines turn ≡ []) }
-        ensures cause { HasCause (O.faults output.old) (O.faults output.new) result }
-        ensures kin { O.kin output.old output.new }
-    {
-        if self.ticked {
-            return self.tick(playback, output);
-        }
-        match self.line.peek() {
-            None => self.idle(playback, output),
-            Some(base) => self.first_tick(base, playback, output),
-        }
-    }
-
-    // A beat without a base.
-    fn idle<O: Sink>(mut self, playback: &mut Playback, output: &mut O) -> Result<Run, Failed>
-        requires ticked { self.ticked ≡ false }
-        requires base { self.line.machine.base ≡ None }
-        ensures applied { (new : Run) × (turn : Turn) × (text : List ℕ) × Applies Beat self new turn × IfOk result (λ run. run ≡ new)
-            × GoesOn (flat_map call_text (calls_of self.line.filers turn.calls)) (flat_map call_items (calls_of self.line.filers turn.calls)) playback.old playback.new text
-            × Gives (O.given output.old) (O.given output.new) result text
-            × (turn_lines turn ≡ []) }
-        ensures cause { HasCause (O.faults output.old) (O.faults output.new) result }
-        ensures kin { O.kin output.old output.new }
-    {
-        let item = Item::Idle;
-        self.played.item(&item);
-        match playback.item(item, output) {
-            Ok(()) => Ok(self),
-            Err(Failed) => Err(Failed),
-        }
-    }
-
-    // The beat that sees the base, and ticks.
-    fn first_tick<O: Sink>(
-        mut self,
-        base: u32,
+    // What the player plays: `opened` says whether a base was seen or a tick made before.
+    fn play<O: Sink>(
+        self,
+        opened: bool,
         playback: &mut Playback,
         output: &mut O,
     ) -> Result<Run, Failed>
-        requires ticked { self.ticked ≡ false }
-        requires base { self.line.machine.base ≡ Some base }
         requires position { self.line.machine.position < 2 ^ 33 }
-        ensures applied { (new : Run) × (turn : Turn) × (text : List ℕ) × Applies Beat self new turn × IfOk result (λ run. run ≡ new)
+        ensures applied { (new : Run) × (turn : Turn) × (text : List ℕ) × Plays opened self new turn × IfOk result (λ run. run ≡ new)
             × GoesOn (flat_map call_text (calls_of self.line.filers turn.calls)) (flat_map call_items (calls_of self.line.filers turn.calls)) playback.old playback.new text
             × Gives (O.given output.old) (O.given output.new) result text
             × (turn_lines turn ≡ []) }
         ensures cause { HasCause (O.faults output.old) (O.faults output.new) result }
         ensures kin { O.kin output.old output.new }
     {
-        let item = self.line.tick();
-        self.played.item(&item);
-        self.ticked = true;
-        match playback.first_item(base, item, output) {
-            Ok(()) => Ok(self),
+        let Run {
+            line,
+            filers,
+            ticked,
+            mut played,
+            filed,
+        } = self;
+        let mut side = MapPlayer::of(line);
+        let found = look(opened, &mut side);
+        played.item(&item_of_found(&found));
+        let run = Run {
+            line: side.back(),
+            filers,
+            ticked: ticked | opens(&found),
+            played,
+            filed,
+        };
+        match playback.found(&found, output) {
+            Ok(()) => Ok(run),
             Err(Failed) => Err(Failed),
         }
     }
