@@ -12,7 +12,7 @@ use Rattle.recorder.specs.Heads.{Heading}
 use Rattle.recorder.specs.Journals.{FilerRecord, FilerRecordFits, PlayerRecord, PlayerRecordFits, filer_text, player_text}
 use Rattle.replay_check.specs.Journals.{AreNumbered, AreOfOneLine}
 use Rattle.gate_notes.specs.Exchange.{NoneFell, SomeRose}
-use Rattle.journal_runs.specs.Verify.{FailsAtInput, FilerHasFault, HasFirstFault, KeepsBehind, PlayerHasFault, TellFilers, TellJournals, TellsFiler, TellsPlayer, filer_misfit, fitting, player_misfit}
+use Rattle.journal_runs.specs.Verify.{FilerHasFault, HasFirstFault, KeepsBehind, PlayerHasFault, TellFilers, TellJournals, TellsFiler, TellsPlayer, filer_misfit, fitting, player_misfit}
 use Rattle.journal_runs.specs.VerifyRuns.{AreUnread, FilersUnread, LeavesBehind, LeavesFilersBehind, unread_at}
 use Rattle.journal_runs.specs.declared.journals.Unread.{Unread}
 use Rattle.journal_runs.specs.declared.journals.Unread.TheVariants as unread
