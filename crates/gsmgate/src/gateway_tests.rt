@@ -42,25 +42,43 @@ fn noted(notes: &MemorySink, text: &str) -> bool {
     *notes.octets() == *text.as_bytes()
 }
 
-// Whether a file has these octets. It is removed.
-fn had<R: fs::Files + AllocGlobal>(rt: &R, path: &str, octets: &[u8]) -> Result<bool, Fail> {
-    let same = *fs::read(rt, path)?.as_slice() == *octets;
-    fs::remove_file(rt, path)?;
-    Ok(same)
+// Whether a file has these octets. It is removed. (The helpers answer plainly: each `?` of a test lets all its objects go.)
+fn had<R: fs::Files + AllocGlobal>(rt: &R, path: &str, octets: &[u8]) -> bool {
+    let same = match fs::read(rt, path) {
+        Ok(found) => *found.as_slice() == *octets,
+        Err(_) => false,
+    };
+    same && fs::remove_file(rt, path).is_ok()
+}
+
+// Whether all these files were there. They are removed.
+fn remove_all<R: fs::Files>(rt: &R, paths: &[&str]) -> bool {
+    let mut all = true;
+    for path in paths {
+        all &= fs::remove_file(rt, *path).is_ok();
+    }
+    all
 }
 
 // Whether the next datagram of a socket is this one.
-fn hears(socket: &UdpSocket, octets: &[u8]) -> Result<bool, Fail> {
+fn hears(socket: &UdpSocket, octets: &[u8]) -> bool {
     let mut piece = [0; 2048];
-    let (len, _) = socket.recv_from(&mut piece)?;
-    Ok(len == octets.len() && piece.starts_with(octets))
+    match socket.recv_from(&mut piece) {
+        Ok((len, _)) => len == octets.len() && piece.starts_with(octets),
+        Err(_) => false,
+    }
 }
 
 // Whether the next datagram of a socket comes from this address.
-fn hears_from<R: AllocGlobal>(rt: &R, socket: &UdpSocket, address: &str) -> Result<bool, Fail> {
+fn hears_from<R: AllocGlobal>(rt: &R, socket: &UdpSocket, address: &str) -> bool {
     let mut piece = [0; 2048];
-    let (_, from) = socket.recv_from(&mut piece)?;
-    Ok(format!(in rt.alloc(); "{from}")?.as_str() == address)
+    let Ok((_, from)) = socket.recv_from(&mut piece) else {
+        return false;
+    };
+    match format!(in rt.alloc(); "{from}") {
+        Ok(text) => text.as_str() == address,
+        Err(_) => false,
+    }
 }
 
 // The address of a port that is free.
@@ -116,15 +134,15 @@ fn each_object_of_a_line_stands_at_its_place(rt: HostRuntime) -> Result<(), Fail
     );
     assert_eq!(rt; answer_at(&mut open.gateway.links, 1), Some(Err(Failed)));
     assert_eq!(rt; open.gateway.reply.send(b"spoken"), Ok(()));
-    assert!(rt; hears(&socket, b"spoken")?);
+    assert!(rt; hears(&socket, b"spoken"));
     assert!(rt; begins(&mut open.gateway.microphone, b"said"));
     assert_eq!(rt; open.gateway.speaker.give(b"heard"), Ok(()));
     assert!(rt; gives_at(&mut open.gateway.journals, 0, b"played"));
     assert!(rt; gives_at(&mut open.gateway.journals, 1, b"first"));
     assert!(rt; gives_at(&mut open.gateway.journals, 2, b"second"));
-    assert!(rt; had(&rt, "place.said", b"said")? && had(&rt, "place.heard", b"heard")?);
-    assert!(rt; had(&rt, "place.player", b"played")?);
-    assert!(rt; had(&rt, "place.0", b"first")? && had(&rt, "place.1", b"second")?);
+    assert!(rt; had(&rt, "place.said", b"said") && had(&rt, "place.heard", b"heard"));
+    assert!(rt; had(&rt, "place.player", b"played"));
+    assert!(rt; had(&rt, "place.0", b"first") && had(&rt, "place.1", b"second"));
     Ok(())
 }
 
@@ -141,10 +159,8 @@ fn a_reply_by_the_later_protocol_is_sent_by_it(rt: HostRuntime) -> Result<(), Fa
         return Err(Fail::from("no gateway"));
     };
     assert_eq!(rt; open.gateway.reply.send(b"spoken"), Ok(()));
-    assert!(rt; hears(&socket, b"spoken")?);
-    for path in ["later.heard", "later.player", "later.0"] {
-        fs::remove_file(&rt, path)?;
-    }
+    assert!(rt; hears(&socket, b"spoken"));
+    assert!(rt; remove_all(&rt, &["later.heard", "later.player", "later.0"]));
     Ok(())
 }
 
@@ -159,10 +175,8 @@ fn return_speech_leaves_from_the_first_socket(rt: HostRuntime) -> Result<(), Fai
         return Err(Fail::from("no gateway"));
     };
     assert_eq!(rt; open.gateway.reply.send(b"spoken"), Ok(()));
-    assert!(rt; hears_from(&rt, &socket, here.as_str())?);
-    for path in ["first.heard", "first.player", "first.0", "first.1"] {
-        fs::remove_file(&rt, path)?;
-    }
+    assert!(rt; hears_from(&rt, &socket, here.as_str()));
+    assert!(rt; remove_all(&rt, &["first.heard", "first.player", "first.0", "first.1"]));
     Ok(())
 }
 
@@ -189,16 +203,19 @@ fn sockets_live_a_second_longer_than_their_ticks(rt: HostRuntime) -> Result<(), 
         Some(Ok(Received::Idle))
     );
     assert_eq!(rt; answer(&mut long.gateway.reply), Ok(Received::Idle));
-    for path in [
-        "short.heard",
-        "short.player",
-        "short.0",
-        "long.heard",
-        "long.player",
-        "long.0",
-    ] {
-        fs::remove_file(&rt, path)?;
-    }
+    assert!(rt;
+        remove_all(
+            &rt,
+            &[
+                "short.heard",
+                "short.player",
+                "short.0",
+                "long.heard",
+                "long.player",
+                "long.0"
+            ]
+        )
+    );
     Ok(())
 }
 
@@ -210,23 +227,23 @@ link 0 datagrams 0 accepted 0 duplicate 0 late 0 beyond 0 refused 0 stranger 0 r
 fn a_line_runs_over_sockets_and_files(rt: HostRuntime) -> Result<(), Fail> {
     let (socket, there) = peer(&rt, "127.0.0.1:0")?;
     fs::write(&rt, "line.said", [0u8; 320].as_slice())?;
+    let packet = octets_of(rt.alloc(), "800300000000000000000001 zeros")?;
     let words = serve_words(rt.alloc(), "line", 3, there.as_str(), "127.0.0.1:0")?;
     let mut notes = no_notes(rt.alloc())?;
     let mut started = start(&rt, Ok(words), &mut notes);
     let served = run_on(&rt, rt.alloc(), &mut started, &mut notes);
     assert_eq!(rt; served.status, Status::Done);
     assert!(rt; noted(&notes, SILENT));
-    assert!(rt; had(&rt, "line.said", &[0; 320])? && had(&rt, "line.heard", &[0; 960])?);
+    assert!(rt; had(&rt, "line.said", &[0; 320]) && had(&rt, "line.heard", &[0; 960]));
     assert!(rt;
         had(
             &rt,
             "line.player",
             b"GSMGPJ01\x01\x06\x00\x03\x10\x10\x10\xFF"
-        )?
+        )
     );
-    assert!(rt; had(&rt, "line.0", b"GSMGFJ01\x01\x06\x00\x03\x00\xFF")?);
-    let packet = octets_of(rt.alloc(), "800300000000000000000001 zeros")?;
-    assert!(rt; hears(&socket, &packet)?);
+    assert!(rt; had(&rt, "line.0", b"GSMGFJ01\x01\x06\x00\x03\x00\xFF"));
+    assert!(rt; hears(&socket, &packet));
     Ok(())
 }
 
@@ -238,10 +255,8 @@ fn a_socket_that_cannot_be_bound_is_a_fault_of_its_link(rt: HostRuntime) -> Resu
     let mut started = start(&rt, Ok(words), &mut notes);
     let served = run_on(&rt, rt.alloc(), &mut started, &mut notes);
     assert_eq!(rt; served.status, Status::LinkFault);
-    assert!(rt; had(&rt, "unbound.said", &[0; 320])? && had(&rt, "unbound.heard", &[0; 960])?);
-    for path in ["unbound.player", "unbound.0"] {
-        fs::remove_file(&rt, path)?;
-    }
+    assert!(rt; had(&rt, "unbound.said", &[0; 320]) && had(&rt, "unbound.heard", &[0; 960]));
+    assert!(rt; remove_all(&rt, &["unbound.player", "unbound.0"]));
     Ok(())
 }
 
@@ -270,26 +285,30 @@ fn journals_are_judged_in_the_order_of_the_words(rt: HostRuntime) -> Result<(), 
     let served = run_on(&rt, rt.alloc(), &mut started, &mut notes);
     assert_eq!(rt; served.status, Status::Done);
     assert!(rt; noted(&notes, "legal 3\n"));
-    assert!(rt; had(&rt, "judged.order", b"0\n1\np\n")? && had(&rt, "judged.player", &player)?);
-    assert!(rt; had(&rt, "judged.0", &first)? && had(&rt, "judged.1", &second)?);
+    assert!(rt; had(&rt, "judged.order", b"0\n1\np\n") && had(&rt, "judged.player", &player));
+    assert!(rt; had(&rt, "judged.0", &first) && had(&rt, "judged.1", &second));
     Ok(())
 }
 
 #[test]
-fn words_that_name_nothing_end_at_once(rt: HostRuntime) -> Result<(), Fail> {
+fn words_that_are_no_line_are_refused(rt: HostRuntime) -> Result<(), Fail> {
     let none = words_of(rt.alloc(), "simulat a b")?;
     let mut notes = no_notes(rt.alloc())?;
     let mut started = start(&rt, Ok(none), &mut notes);
     let served = run_on(&rt, rt.alloc(), &mut started, &mut notes);
     assert_eq!(rt; served.status, Status::Usage);
     assert!(rt; noted(&notes, "usage\n"));
+    Ok(())
+}
+
+#[test]
+fn a_file_that_is_not_there_is_a_fault_of_reading(rt: HostRuntime) -> Result<(), Fail> {
     let astray = words_of(rt.alloc(), "decode no-such-file unread.speech")?;
     let mut notes = no_notes(rt.alloc())?;
     let mut started = start(&rt, Ok(astray), &mut notes);
     let served = run_on(&rt, rt.alloc(), &mut started, &mut notes);
     assert_eq!(rt; served.status, Status::ReadFault);
-    assert!(rt; noted(&notes, ""));
-    assert!(rt; had(&rt, "unread.speech", b"")?);
+    assert!(rt; noted(&notes, "") && had(&rt, "unread.speech", b""));
     Ok(())
 }
 
