@@ -21,11 +21,12 @@ pub record LifeState : Type 0 where
   pub asked : Option ℕ
   pub heard : Option ℕ
 
--- a socket: whether it could be bound, whether it is known where datagrams are to go, its life, whether it has answered that
--- it ended, and the calls that failed
+-- a socket: whether it could be bound, whether it is known where datagrams are to go, whether that was given and so stays, its
+-- life, whether it has answered that it ended, and the calls that failed
 pub record SocketState : Type 0 where
   pub is_bound : Bool
   pub has_target : Bool
+  pub is_fixed : Bool
   pub life : LifeState
   pub ended : Bool
   pub faults : ℕ

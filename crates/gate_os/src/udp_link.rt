@@ -42,7 +42,7 @@ impl<'a, R: Clock> Model for UdpLink<'a, R> {
 
     ghost Value = { SocketState };
 
-    ghost view = { λ s. record { is_bound = is_some s.inside; has_target = is_some s.there; life = s.life; ended = s.ended; faults = s.faults } };
+    ghost view = { λ s. record { is_bound = is_some s.inside; has_target = is_some s.there; is_fixed = s.is_fixed; life = s.life; ended = s.ended; faults = s.faults } };
 
     ghost invariant = { λ s. s.is_fixed ≡ true → is_some s.inside ≡ true → is_some s.there ≡ true };
 }
@@ -61,8 +61,9 @@ impl<'a, R: Net + Clock + Wait + Sync> UdpLink<'a, R> {
         ensures ended { IfOk result (λ s. s.ended ≡ false) }
         ensures life { IfOk result (λ s. s.life.lasts ≡ lasting ticks) }
         ensures counted { IfOk result (λ s. s.faults ≡ 0) }
-        ensures to_senders { length there.now ≡ 0 → IfOk result (λ s. s.has_target ≡ false) }
+        ensures to_senders { length there.now ≡ 0 → IfOk result (λ s. (s.has_target ≡ false) × (s.is_fixed ≡ false)) }
         ensures to_there { (length there.now ≡ 0 → ⊥) → IfOk result (λ s. s.is_bound ≡ true → s.has_target ≡ true) }
+        ensures fixed { (length there.now ≡ 0 → ⊥) → IfOk result (λ s. s.is_fixed ≡ true) }
     {
         let events = Events::with_capacity(alloc, 1)?;
         let is_fixed = !there.is_empty();
@@ -96,6 +97,7 @@ impl<'a, R: Net + Clock + Wait + Sync> UdpLink<'a, R> {
         ensures life { IfOk result (λ s. s.life.lasts ≡ lasting ticks) }
         ensures counted { IfOk result (λ s. s.faults ≡ 0) }
         ensures to_there { IfOk result (λ s. s.is_bound ≡ true → s.has_target ≡ true) }
+        ensures fixed { IfOk result (λ s. s.is_fixed ≡ true) }
     {
         let events = Events::with_capacity(alloc, 1)?;
         let target = address_of(self.rt, there).ok();
@@ -194,6 +196,7 @@ impl<'a, R: Clock> Link for UdpLink<'a, R> {
         ensures timed { IfOk result (IsTimed self.new.life) }
         ensures lasts { self.new.life ≡ record self.old.life { asked = self.new.life.asked; heard = self.new.life.heard } }
         ensures target { TargetAfter self.old.has_target self.new.has_target result }
+        ensures fixed { self.new.is_fixed ≡ self.old.is_fixed }
         ensures counted { self.new.faults ≡ count_after result self.old.faults }
     {
         if self.ended {

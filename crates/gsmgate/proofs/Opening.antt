@@ -30,7 +30,7 @@ fresh-more life n xs s all one = record {
 still-fresh : (life : ℕ) (start : Option ℕ) (xs : List SocketState) → AllByRecursion (IsFresh life) xs → AllByRecursion (IsFresh life) (map (begun_at start) xs)
 still-fresh life start [] all = tt
 still-fresh life start (s ∷ rest) all = (
-  record { target = all.0.target; lasts = all.0.lasts; ended = all.0.ended; faults = all.0.faults },
+  record { target = all.0.target; free = all.0.free; lasts = all.0.lasts; ended = all.0.ended; faults = all.0.faults },
   still-fresh life start rest all.1,
 )
 
@@ -38,7 +38,7 @@ pub fresh-begun : (life n : ℕ) (start : Option ℕ) (xs : List SocketState) �
 fresh-begun life n start xs all = record { many = length-map xs (begun_at start) ∙ all.many; fresh = still-fresh life start xs all.fresh }
 
 pub reply-begun : (life : ℕ) (start : Option ℕ) (s : SocketState) → IsReply life s → IsReply life (begun_at start s)
-reply-begun life start s is = record { target = is.target; lasts = is.lasts; ended = is.ended; faults = is.faults }
+reply-begun life start s is = record { target = is.target; fixed = is.fixed; lasts = is.lasts; ended = is.ended; faults = is.faults }
 
 pub all-begun : (start : Option ℕ) (xs : List SocketState) → AllByRecursion (Begins start) (map (begun_at start) xs)
 all-begun start [] = tt

@@ -24,6 +24,7 @@ use Rattle.gate_notes.specs.declared.status.Status.TheVariants.{Usage, OutOfMemo
 -- a socket that has neither failed nor ended, lasts so long, and sends to whom it hears
 pub record IsFresh (life : ℕ) (s : SocketState) : Type 0 where
   pub target : s.has_target ≡ false
+  pub free : s.is_fixed ≡ false
   pub lasts : s.life.lasts ≡ life
   pub ended : s.ended ≡ false
   pub faults : s.faults ≡ 0
@@ -33,9 +34,10 @@ pub record AreFresh (life count : ℕ) (sockets : List SocketState) : Type 0 whe
   pub many : length sockets ≡ count
   pub fresh : AllByRecursion (IsFresh life) sockets
 
--- one that has neither failed nor ended, lasts so long, and knows whom it sends to
+-- one that has neither failed nor ended, lasts so long, and sends to whom it was given, whatever it hears
 pub record IsReply (life : ℕ) (s : SocketState) : Type 0 where
   pub target : s.is_bound ≡ true → s.has_target ≡ true
+  pub fixed : s.is_fixed ≡ true
   pub lasts : s.life.lasts ≡ life
   pub ended : s.ended ≡ false
   pub faults : s.faults ≡ 0
