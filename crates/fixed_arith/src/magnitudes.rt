@@ -6,7 +6,7 @@ use crate::words::abs_word;
 
 /// The greatest magnitude of the values, that of -32768 limited to 32767; 0 where there are none.
 #[inline]
-#[tactic(auto, using(crate::proofs::GreatestLaws::greatest_none, crate::proofs::GreatestLaws::greatest_more))]
+#[tactic(auto, using(crate::specs::GreatestLaws::greatest_none, crate::specs::GreatestLaws::greatest_more))]
 pub fn greatest(xs: &[i16]) -> i16
     ensures value { result ≡ greatest_of xs.now }
     ensures sign { pos 0 ≤ℤ result }

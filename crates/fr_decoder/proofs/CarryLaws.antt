@@ -8,7 +8,7 @@ use Rattle.lar_filter.specs.Ratios.{ratios_of}
 use Rattle.lar_filter.specs.Lattice.{StepsTo}
 use Rattle.lar_filter.specs.Trace.{Traces}
 use Rattle.lar_filter.specs.Parts.{IsFed, frame_coefficient, PassesFrame}
-use Rattle.lar_filter.proofs.PartLaws.{IsFed-same, IsFed-append, past_before}
+use Rattle.lar_filter.specs.PartLaws.{IsFed-same, IsFed-append, past_before}
 use Rattle.rpe_ltp.specs.LongTerm.{Remembers}
 use Rattle.fr_decoder.specs.Deemphasis.{emphasis_after, output_of}
 use Rattle.fr_decoder.specs.Speech.{sub_frames, ratio, coefficient}

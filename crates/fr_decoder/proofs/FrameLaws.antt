@@ -1,6 +1,5 @@
 -- One frame more: what was before stays, and the coefficients of the new one.
-use Rattle.std.proofs.Common.{◌≡◌, ℕ, zero, suc, ◌+◌, ◌-◌, ◌*◌, ◌/◌, ◌%◌, ◌<◌, ◌≤◌, ℤ, pos, List, [], ◌∷◌, ◌++◌, length, get_or, refl, sym, ◌∙◌, ap, arith, length-append}
-use Rattle.std.proofs.lemmas.Bool.Decides.{nat_tests}
+use Rattle.std.proofs.Common.{◌≡◌, ℕ, zero, suc, ◌+◌, ◌-◌, ◌*◌, ◌/◌, ◌%◌, ◌<◌, ◌≤◌, ℤ, List, [], ◌∷◌, ◌++◌, length, get_or, refl, sym, ◌∙◌, ap, arith, length-append}
 use Rattle.std.proofs.lemmas.List.{get_or_append_left, get_or-append_right, append-nil}
 use Rattle.std.proofs.lemmas.Grind.{get_or_head, flat_map-append}
 use Rattle.fixed_arith.specs.Signal.{at, past}
@@ -11,7 +10,7 @@ use Rattle.std.proofs.Common.{append_assoc}
 use Rattle.rpe_ltp.specs.LongTerm.{Memory, Remembers}
 use Rattle.fr_decoder.specs.Speech.{frame_at, sub_frames, ratio, coefficient}
 use Rattle.lar_filter.specs.Parts.{frame_coefficient}
-use Rattle.lar_filter.proofs.PartLaws.{past_reached, past_before}
+use Rattle.lar_filter.specs.PartLaws.{past_reached, past_before}
 
 pub sub_frames-more : (frames : List Fields) (frame : Fields) → sub_frames (frames ++ frame ∷ []) ≡ sub_frames frames ++ frame.sub
 sub_frames-more frames frame = flat_map-append (λ (f : Fields). f.sub) frames (frame ∷ []) ∙ ap (λ (subs : List SubParams). sub_frames frames ++ subs) (append-nil frame.sub)

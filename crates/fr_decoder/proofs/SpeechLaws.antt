@@ -10,7 +10,7 @@ use Rattle.fr_decoder.specs.Deemphasis.{emphasis_next, emphasis_after, output_of
 use Rattle.fr_decoder.specs.Speech.{sub_frames, coefficient, IsSpeech}
 use Rattle.lar_filter.specs.Parts.{IsFed}
 use Rattle.fr_decoder.proofs.DeemphasisLaws.{emphasis_after-none, emphasis_after-more}
-use Rattle.lar_filter.proofs.PartLaws.{past_reached, past_before}
+use Rattle.lar_filter.specs.PartLaws.{past_reached, past_before}
 
 -- from rest, the value before is 0 before time 0
 since_rest : (f : ℕ → ℤ) (i t : ℕ) → i < 8 → since (at (replicate 8 (pos 0)) i) f t ≡ past f t 1

@@ -10,7 +10,7 @@ use Rattle.rpe_ltp.specs.History.{back_at}
 use Rattle.rpe_ltp.specs.LongTerm.{sub_at, Memory, Remembers}
 use Rattle.rpe_ltp.specs.SubFrame.{IsCoded, Continues}
 use Rattle.fr_encoder.specs.Excitation.{forty, AreBefore, IsExcitation, Excites}
-use Rattle.lar_filter.proofs.PartLaws.{past_reached, past_before}
+use Rattle.lar_filter.specs.PartLaws.{past_reached, past_before}
 
 -- more values change nothing that stands before
 past_front : (values more : List ℤ) (t n : ℕ) → t < length values + n → past (at (values ++ more)) t n ≡ past (at values) t n

@@ -8,7 +8,7 @@ use Rattle.lar_filter.specs.Ratios.{ratios_of}
 use Rattle.lar_filter.specs.Rising.{RisesTo}
 use Rattle.lar_filter.specs.RisingTrace.{RisesOver}
 use Rattle.lar_filter.specs.Parts.{IsFed, frame_coefficient, PassesFrame}
-use Rattle.lar_filter.proofs.PartLaws.{IsFed-same, IsFed-append, past_before}
+use Rattle.lar_filter.specs.PartLaws.{IsFed-same, IsFed-append, past_before}
 use Rattle.lar_filter.specs.Autocorrelation.{scale_of, scaled_word, scaled, onward}
 use Rattle.fr_encoder.specs.Preprocessing.{Offset, at_rest, offset_after, preprocessed}
 use Rattle.fr_encoder.specs.ShortTerm.{piece_at, codes_of_piece, codes_at, ratio, coefficient}

@@ -1,7 +1,6 @@
 -- One piece more: what was before stays, and the values and coefficients of the new one.
 use Rattle.std.proofs.Common.{◌≡◌, ℕ, zero, suc, ◌+◌, ◌-◌, ◌*◌, ◌/◌, ◌%◌, ◌<◌, ◌≤◌, ℤ, pos, List, [], ◌∷◌, ◌++◌, length, take, drop, refl, sym, ◌∙◌, ap, arith, length-append, inl, inr}
 use Rattle.std.proofs.lemmas.Bool.{cases_lt}
-use Rattle.std.proofs.lemmas.Bool.Decides.{nat_tests}
 use Rattle.std.proofs.lemmas.List.{get_or_append_left, get_or-append_right, take-append-le, drop-append-le}
 use Rattle.std.proofs.lemmas.Grind.{get_or_head}
 use Rattle.std.proofs.Math.Seq.{take-length, drop-append_seam}
@@ -11,7 +10,7 @@ use Rattle.lar_filter.specs.Ratios.{ratios_of}
 use Rattle.lar_filter.specs.Autocorrelation.{onward}
 use Rattle.fr_encoder.specs.ShortTerm.{piece_at, codes_of_piece, codes_at, ratio, coefficient}
 use Rattle.lar_filter.specs.Parts.{frame_coefficient}
-use Rattle.lar_filter.proofs.PartLaws.{past_reached, past_before}
+use Rattle.lar_filter.specs.PartLaws.{past_reached, past_before}
 
 pub piece_at-front : (values more : List ℤ) (f n : ℕ) → length values ≡ 160 * n → f < n → piece_at (values ++ more) f ≡ piece_at values f
 unfolding piece_at

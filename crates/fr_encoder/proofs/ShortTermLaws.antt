@@ -6,12 +6,12 @@ use Rattle.lar_filter.specs.Autocorrelation.{onward}
 use Rattle.lar_filter.specs.Reflections.{reflections, normal_word, quotients}
 use Rattle.lar_filter.specs.Trace.{since, coefficients_at}
 use Rattle.lar_filter.specs.RisingTrace.{RisesOver}
-use Rattle.lar_filter.proofs.SchurLaws.{quotients_same}
+use Rattle.lar_filter.specs.SchurLaws.{quotients_same}
 use Rattle.fr_encoder.specs.Preprocessing.{Offset, at_rest, offset_word, kept_long, middle_long, emphasised, next_offset, offset_after, preprocessed}
 use Rattle.fr_encoder.specs.ShortTerm.{piece_at, codes_of_piece, codes_at, coefficient, IsShortTerm}
 use Rattle.lar_filter.specs.Parts.{IsFed}
 use Rattle.fr_encoder.proofs.PreprocessingLaws.{offset_after-none, offset_after-more}
-use Rattle.lar_filter.proofs.PartLaws.{past_reached, past_before}
+use Rattle.lar_filter.specs.PartLaws.{past_reached, past_before}
 
 -- the coefficients depend on the first nine values alone
 pub reflections_same : (acf other : ℕ → ℤ) → ((k : ℕ) → k ≤ 8 → acf k ≡ other k) → reflections acf ≡ reflections other

@@ -6,7 +6,7 @@ use Rattle.std.proofs.lemmas.List.{append-nil, append_cancel_left, nil_from_leng
 use Rattle.std.proofs.lemmas.Bool.Decides.{Decides-eqb}
 use Rattle.frame_codec.specs.declared.item.Item.{Item}
 use Rattle.substitution.specs.Heard.{IsHeard, Sounding, Voices}
-use Rattle.heard_laws.proofs.OneHeard.{one_heard}
+use Rattle.heard_laws.specs.Sameness.{HeardIsOne}
 
 -- All was heard so far. Where the samples are the same, they are that and then those that are left; else they do not begin so.
 pub record Compared (samples all left : List ℤ) (same : Bool) : Type 0 where
@@ -40,21 +40,21 @@ voices-more seed items k item samples voice inside is voices =
     subst (λ (l : List Item). Voices seed l samples voice) (sym taken) voices
 
 -- what is heard is the same, and no more
-same-heard : (seed : List ℕ) (items : List Item) (samples all left : List ℤ) (same : Bool) → IsHeard seed items all → Compared samples all left same → IsHeard seed items samples → (same ≡ true) × (left ≡ [])
-same-heard seed items samples all left same heard so is = decided same so
+same-heard : HeardIsOne → (seed : List ℕ) (items : List Item) (samples all left : List ℤ) (same : Bool) → IsHeard seed items all → Compared samples all left same → IsHeard seed items samples → (same ≡ true) × (left ≡ [])
+same-heard heard_is_one seed items samples all left same heard so is = decided same so
   where
     whole : samples ≡ all ++ []
-    whole = one_heard seed items samples all is heard ∙ sym (append-nil all)
+    whole = heard_is_one seed items samples all is heard ∙ sym (append-nil all)
 
     decided : (same : Bool) → Compared samples all left same → (same ≡ true) × (left ≡ [])
     decided true so = (refl, append_cancel_left all left [] (sym (so.met refl) ∙ whole))
     decided false so = absurd (so.differs refl [] whole)
 
 -- behind all items: the samples are what is heard exactly where they are the same and none is left
-pub decided : (seed : List ℕ) (items : List Item) (k : ℕ) (samples all left : List ℤ) (same none : Bool) → length items ≤ k → IsHeard seed (take k items) all → Compared samples all left same
+pub decided : HeardIsOne → (seed : List ℕ) (items : List Item) (k : ℕ) (samples all left : List ℤ) (same none : Bool) → length items ≤ k → IsHeard seed (take k items) all → Compared samples all left same
     → none ≡ nat_eq (length left) 0 → (same ≡ true → none ≡ true → IsHeard seed items samples) × (IsHeard seed items samples → (same ≡ true) × (none ≡ true))
-decided seed items k samples all left same none done heard so test =
-    (λ is t. back is (nil_from_length left (tested.0 (sym test ∙ t))), λ h. let both = same-heard seed items samples all left same whole so h in (both.0, test ∙ tested.1 (ap length both.1)))
+decided heard_is_one seed items k samples all left same none done heard so test =
+    (λ is t. back is (nil_from_length left (tested.0 (sym test ∙ t))), λ h. let both = same-heard heard_is_one seed items samples all left same whole so h in (both.0, test ∙ tested.1 (ap length both.1)))
   where
     whole : IsHeard seed items all
     whole = subst (λ (l : List Item). IsHeard seed l all) (take_all k items done) heard

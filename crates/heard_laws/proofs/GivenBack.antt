@@ -11,10 +11,9 @@ use Rattle.recorder.specs.declared.fault.RecordFault.{RecordFault}
 use Rattle.recorder.specs.declared.tally.PlayTally.{PlayTally}
 use Rattle.recorder.specs.Files.{end_mark, event_limit}
 use Rattle.recorder.specs.Heads.{Heading, IsHeading, head_text, play_magic}
-use Rattle.recorder.specs.Journals.{IsPlayerJournal, PlayerRecord, player_front, player_text}
+use Rattle.recorder.specs.Journals.{IsPlayerJournal, PlayerRecord, PlayersHaveNoFault, player_front, player_text}
 use Rattle.recorder.specs.Play.{AllPlayFit, call_text, play_event_text, play_front, play_text}
 use Rattle.recorder.specs.Tallies.{play_tally}
-use Rattle.recorder.proofs.PlayerUnique.{not_both}
 use Rattle.substitution.specs.Heard.{IsHeard, sample_octets}
 use Rattle.replay_check.specs.declared.rendering.RenderEnd.{RenderEnd}
 use Rattle.replay_check.specs.declared.rendering.RenderEnd.TheVariants.{Done, Refused, ReadFault, WriteFault}
@@ -22,11 +21,11 @@ use Rattle.replay_check.specs.Render.{BreaksOff, Played, Renders, Stops, StopsSh
 use Rattle.player.specs.Beats.{CanBeTold}
 use Rattle.player.specs.Whole.{AreBeats, items_in}
 use Rattle.heard_laws.specs.Rendered.{GivesAllButLast, GivesAllRead, GivesBack, JournalRenders, RendersTo}
-use Rattle.heard_laws.proofs.OneHeard.{one_heard}
+use Rattle.heard_laws.specs.Sameness.{HeardIsOne}
 use Rattle.heard_laws.proofs.OneJournal.{front_events, one_events}
 use Rattle.heard_laws.proofs.Telling.{calls_before, events_in, few-all, fit-all, items-all, only_call, text-all, told_back, told_front}
 
-module _ (seed : List ℕ) (h : Heading) (made : ℕ) (calls : List Call) (samples : List ℤ) (head : IsHeading h) (beats : AreBeats made calls) (told : AllByRecursion CanBeTold calls)
+module _ (heard_is_one : HeardIsOne) (not_both : PlayersHaveNoFault) (seed : List ℕ) (h : Heading) (made : ℕ) (calls : List Call) (samples : List ℤ) (head : IsHeading h) (beats : AreBeats made calls) (told : AllByRecursion CanBeTold calls)
     (few : length calls ≤ event_limit) (heard : IsHeard seed (items_in calls) samples) where
   abbrev says : PlayerRecord
   says = record { head = h; events = events_in calls }
@@ -56,7 +55,7 @@ module _ (seed : List ℕ) (h : Heading) (made : ℕ) (calls : List Call) (sampl
   when-done tally before now j got played =
       let events : j.events ≡ events_in calls = read-whole j played.text.0 played.text.2.0 played.fits.events played.text.1 played.text.2.1 in
       let items : items_of j.events ≡ items_in calls = ap items_of events ∙ items-all calls in
-      let same : got ≡ samples = one_heard seed (items_in calls) got samples (subst (λ (l : List Item). IsHeard seed l got) items played.heard) heard in
+      let same : got ≡ samples = heard_is_one seed (items_in calls) got samples (subst (λ (l : List Item). IsHeard seed l got) items played.heard) heard in
       (subst (λ (l : List ℤ). Appends before now (sample_octets l)) same played.given, played.tallied ∙ ap play_tally items)
 
   when-refused : (f : RecordFault) (before now : Option (List ℕ)) → Renders seed (Refused f) (Some (play_text h calls)) before now → ⊥
@@ -152,5 +151,5 @@ module _ (seed : List ℕ) (h : Heading) (made : ℕ) (calls : List Call) (sampl
     stopped = stopped;
   }
 
-pub journal_gives_back : JournalRenders
-journal_gives_back seed h made calls samples head beats told few heard = gives-back seed h made calls samples head beats told few heard
+pub journal_gives_back : HeardIsOne → PlayersHaveNoFault → JournalRenders
+journal_gives_back heard_is_one not_both seed h made calls samples head beats told few heard = gives-back heard_is_one not_both seed h made calls samples head beats told few heard

@@ -5,8 +5,7 @@ use Rattle.frame_codec.specs.declared.item.Item.{Item}
 use Rattle.playout.specs.declared.call.Call.{Call}
 use Rattle.playout.specs.declared.call.Call.TheVariants.{PeekCall, TickCall}
 use Rattle.player.specs.Whole.{AreBeats}
-use Rattle.heard_laws.specs.Rendered.{RunRenders}
-use Rattle.heard_laws.proofs.GivenBack.{journal_gives_back}
+use Rattle.heard_laws.specs.Rendered.{JournalRenders, RunRenders}
 
 long : (idle base : ℕ) (items : List Item) → length (replicate idle (PeekCall None) ++ PeekCall (Some base) ∷ map TickCall items) ≡ idle + (1 + length items)
 long idle base items =
@@ -20,6 +19,6 @@ beats_are_few made calls beats = elim beats [
   | inr some ↦ let l : length calls ≡ some.0 + (1 + length some.2) = ap (λ (c : List Call). length c) some.5 ∙ long some.0 some.1 some.2 in omega (arith, l, some.4)
 ]
 
-pub run_gives_back : RunRenders
-run_gives_back seed own sequence stamp before now made calls a b h head most gave =
-    (gave.samples, gave.speaker, journal_gives_back seed h made calls gave.samples head gave.beats gave.told (omega (arith, most, beats_are_few made calls gave.beats)) gave.heard)
+pub run_gives_back : JournalRenders → RunRenders
+run_gives_back journal_renders seed own sequence stamp before now made calls a b h head most gave =
+    (gave.samples, gave.speaker, journal_renders seed h made calls gave.samples head gave.beats gave.told (omega (arith, most, beats_are_few made calls gave.beats)) gave.heard)

@@ -2,6 +2,7 @@
 ghost use Rattle.std.specs.Prelude.{◌↔◌, IsTrue};
 ghost use Rattle.substitution.specs.Heard.{IsHeard};
 
+use crate::laws::heard_is_one;
 use frame_codec::Item;
 use substitution::Voice;
 
@@ -10,6 +11,8 @@ use substitution::Voice;
 pub fn is_heard(seed: [u8; 32], items: &[Item], samples: &[i16]) -> bool
     ensures { IsTrue result ↔ IsHeard seed items.now samples.now }
 {
+    // Other samples than those that the voice plays are not heard.
+    heard_is_one();
     let mut voice = Voice::new(seed);
     let mut speech = [0; 160];
     let mut left = samples;

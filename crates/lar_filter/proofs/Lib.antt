@@ -2,8 +2,6 @@ pub mod RunLaws
 pub mod LatticeLaws
 pub mod TraceLaws
 pub mod ScaleLaws
-pub mod SchurLaws
 pub mod LimitLaws
 pub mod RisingLaws
 pub mod RisingTraceLaws
-pub mod PartLaws

@@ -6,7 +6,7 @@ use Rattle.std.proofs.lemmas.Int.{ints, unsigned_abs-mul, fits_signed_from_abs}
 use Rattle.std.proofs.Math.Nat.{pow-le-pow_right, mul-le-mul_left, mul-le-mul}
 use Rattle.fixed_arith.specs.Word.{clip_word, mult_r_words}
 use Rattle.fixed_arith.specs.Sums.{sum_below}
-use Rattle.fixed_arith.proofs.SumLaws.{sum_abs_le, energy, lagged_le, sum_squares, sum_same}
+use Rattle.fixed_arith.specs.SumLaws.{sum_abs_le, energy, lagged_le, sum_squares, sum_same}
 use Rattle.fixed_arith.specs.Signal.{at}
 use Rattle.lar_filter.specs.Autocorrelation.{scaled_word, correlation}
 

@@ -9,3 +9,5 @@ pub mod Quantising
 pub mod Rising
 pub mod RisingTrace
 pub mod Parts
+pub mod PartLaws
+pub mod SchurLaws

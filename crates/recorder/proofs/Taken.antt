@@ -1,10 +1,8 @@
--- What a piece that was filled from a source tells of what the source had.
-use Rattle.std.proofs.Common.{◌≡◌, ◌≢◌, ℕ, zero, suc, ◌+◌, ◌≤◌, ◌<◌, List, [], ◌∷◌, ◌++◌, length, take, Option, Some, None, Result, Ok, Err, refl, sym, ap, subst, ◌∙◌, append-nil, length-append, arith, inl, inr}
+-- What the octets behind a kind decide, and what a refusal has taken.
+use Rattle.std.proofs.Common.{◌≡◌, ◌≢◌, ℕ, ◌+◌, ◌≤◌, ◌<◌, List, [], ◌∷◌, ◌++◌, length, take, Option, Some, None, Result, Ok, Err, sym, subst, length-append, arith}
 use Rattle.std.specs.Prelude.{IfSome, OnErr}
 use Rattle.std.specs.Io.KnownBytes.{Consumes, IsAtEnd}
 use Rattle.std.proofs.KnownBytes.{Consumes-nil, Consumes-trans}
-use Rattle.std.proofs.Math.Seq.{take-append_seam}
-use Rattle.std.proofs.lemmas.Bool.{cases_lt}
 use Rattle.std.proofs.lemmas.List.{length-take-le}
 use Rattle.std.proofs.lemmas.Bool.Decides.{nat_tests}
 use Rattle.gate_io.specs.Flow.{ConsumesFewer}
@@ -13,32 +11,7 @@ use Rattle.recorder.specs.Fields.{judged_behind}
 use Rattle.recorder.specs.Heads.{Heading}
 use Rattle.recorder.specs.Files.{end_mark, event_limit, fault_by}
 use Rattle.recorder.specs.Script.{fault_at, file_fault, whole_datagram_fault}
-
-take-short : (m : ℕ) (xs : List ℕ) → length xs ≤ m → take m xs ≡ xs
-take-short zero [] le = refl
-take-short (suc m) [] le = refl
-take-short zero (x ∷ xs) le = absurd (omega arith)
-take-short (suc m) (x ∷ xs) le = ap (λ (l : List ℕ). x ∷ l) (take-short m xs (omega arith))
-
--- the first octets of the source, as many as the piece has, are those that came
-front_is : (n m : ℕ) (octets rest piece : List ℕ) → n ≤ m → length piece ≡ m → octets ≡ take n piece ++ rest → (n < m → rest ≡ []) → take m octets ≡ take n piece
-front_is n m octets rest piece le len whole end =
-    let there : length (take n piece) ≡ n = length-take-le n piece (omega arith) in
-    elim (cases_lt n m) [
-      | inl short ↦
-          let all : octets ≡ take n piece = whole ∙ ap (λ (l : List ℕ). take n piece ++ l) (end short) ∙ append-nil (take n piece) in
-          ap (take m) all ∙ take-short m (take n piece) (omega arith)
-      | inr full ↦
-          let same : n ≡ m = omega arith in
-          ap (take m) whole ∙ subst (λ (k : ℕ). take k (take n piece ++ rest) ≡ take n piece) (there ∙ same) (take-append_seam (take n piece) rest)
-    ]
-
--- so what holds of those that came holds of the first octets of the source
-pub told : (old new : Option (List ℕ)) (n m : ℕ) (piece : List ℕ) (P : List ℕ → Type 0) → n ≤ m → length piece ≡ m → Consumes old new (take n piece) → (n < m → IsAtEnd new)
-    → P (take n piece) → IfSome old (λ octets. P (take m octets))
-told None new n m piece P le len took end p = tt
-told (Some octets) None n m piece P le len took end p = absurd took
-told (Some octets) (Some rest) n m piece P le len took end p = subst P (sym (front_is n m octets rest piece le len took end)) p
+use Rattle.recorder.specs.PieceLaws.{told}
 
 -- behind a kind that is no end mark, within the limit, what follows it decides
 pub behind_kind : (old mid : Option (List ℕ)) (kind count at : ℕ) (behind : ℕ → ℕ → List ℕ → Option RecordFault) (Q : Option RecordFault → Type 0) → kind ≢ end_mark → count < event_limit

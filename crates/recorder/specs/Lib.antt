@@ -8,3 +8,4 @@ pub mod Reader
 pub mod Journals
 pub mod Tallies
 pub mod TallyLaws
+pub mod PieceLaws

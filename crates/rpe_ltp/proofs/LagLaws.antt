@@ -6,7 +6,7 @@ use Rattle.std.proofs.lemmas.Int.{unsigned_abs-mul, fits_signed_from_abs}
 use Rattle.std.proofs.lemmas.Nat.{div_below, pow_pos}
 use Rattle.std.proofs.Math.Nat.{pow-le-pow_right, mul-le-mul_left, mul-le-mul, div-le_of_le-mul, mul_comm}
 use Rattle.fixed_arith.specs.Sums.{sum_below}
-use Rattle.fixed_arith.proofs.SumLaws.{sum_abs_le, sum_same}
+use Rattle.fixed_arith.specs.SumLaws.{sum_abs_le, sum_same}
 use Rattle.fixed_arith.specs.Signal.{at}
 use Rattle.rpe_ltp.specs.History.{back_at}
 use Rattle.rpe_ltp.specs.LagSearch.{lag_sum, sum_by_place, IsFirstGreatest, lag_power}

@@ -6,7 +6,7 @@ use Rattle.std.proofs.lemmas.Bool.{cases_lt}
 use Rattle.std.proofs.lemmas.Int.{ints, unsigned_abs-mul, fits_signed_from_abs}
 use Rattle.std.proofs.Math.Nat.{mul-le-mul, mul-le-mul_left}
 use Rattle.fixed_arith.specs.Sums.{sum_below}
-use Rattle.fixed_arith.proofs.SumLaws.{abs_add_le, sum_abs_le, sum_same}
+use Rattle.fixed_arith.specs.SumLaws.{abs_add_le, sum_abs_le, sum_same}
 use Rattle.fixed_arith.specs.Signal.{at}
 use Rattle.rpe_ltp.specs.Weighting.{response, weighted}
 use Rattle.rpe_ltp.proofs.LagLaws.{shr_small}

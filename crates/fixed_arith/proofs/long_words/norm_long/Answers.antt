@@ -2,7 +2,7 @@ use Rattle.std.proofs.Common.{arith, FitsSigned, of_z, w32}
 use Rattle.std.specs.Prelude.{unsigned_abs}
 use Rattle.std.specs.Int.{leading_zeros}
 use Rattle.std.proofs.lemmas.Int.{to_z-of_z}
-use Rattle.fixed_arith.proofs.WordLaws.{normal, HighestDigit, highest_digit}
+use Rattle.fixed_arith.specs.WordLaws.{normal, HighestDigit, highest_digit}
 use Rattle.fixed_arith.proofs.long_words.norm_long.Goals as goal
 
 pub overflow_sub-result : goal.overflow_sub-result

@@ -3,7 +3,7 @@ use Rattle.std.proofs.lemmas.Int.{to_z-of_z, ints}
 use Rattle.std.proofs.lemmas.Bool.{cases_lt}
 use Rattle.std.proofs.lemmas.List.{get_or_past}
 use Rattle.fixed_arith.specs.Word.{abs_of_word}
-use Rattle.fixed_arith.proofs.GreatestLaws.{greatest_more, one_more, still_reached}
+use Rattle.fixed_arith.specs.GreatestLaws.{greatest_more, one_more, still_reached}
 use Rattle.fixed_arith.proofs.magnitudes.greatest.Goals as goal
 
 pub loop-x-preserved : goal.loop-x-preserved

@@ -1,7 +1,7 @@
 use Rattle.std.proofs.Common.{rules, arith, ◌+ℤ◌, FitsSigned, w16, w32}
 use Rattle.std.proofs.lemmas.Int.{to_z-of_z, ints}
 use Rattle.fixed_arith.specs.Word.{add_words}
-use Rattle.fixed_arith.proofs.WordLaws.{long_from_word}
+use Rattle.fixed_arith.specs.WordLaws.{long_from_word}
 use Rattle.fixed_arith.proofs.words.add.Goals as goal
 
 pub returns : goal.returns

@@ -2,7 +2,7 @@ use Rattle.std.proofs.Common.{rules, ◌*ℤ◌, FitsSigned, w16, w32}
 use Rattle.std.specs.Int.{int_shr}
 use Rattle.std.proofs.lemmas.Int.{to_z-of_z}
 use Rattle.fixed_arith.specs.Word.{mult_words}
-use Rattle.fixed_arith.proofs.WordLaws.{long_from_word, long_from_product, long_from_shift}
+use Rattle.fixed_arith.specs.WordLaws.{long_from_word, long_from_product, long_from_shift}
 use Rattle.fixed_arith.proofs.words.mult.Goals as goal
 
 pub returns : goal.returns

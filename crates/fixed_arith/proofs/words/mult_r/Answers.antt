@@ -2,7 +2,7 @@ use Rattle.std.proofs.Common.{rules, pos, ◌+ℤ◌, ◌*ℤ◌, FitsSigned, w1
 use Rattle.std.specs.Int.{int_shr}
 use Rattle.std.proofs.lemmas.Int.{to_z-of_z}
 use Rattle.fixed_arith.specs.Word.{mult_r_words}
-use Rattle.fixed_arith.proofs.WordLaws.{long_from_word, long_from_product, long_from_rounded_product, long_from_shift}
+use Rattle.fixed_arith.specs.WordLaws.{long_from_word, long_from_product, long_from_rounded_product, long_from_shift}
 use Rattle.fixed_arith.proofs.words.mult_r.Goals as goal
 
 pub returns : goal.returns

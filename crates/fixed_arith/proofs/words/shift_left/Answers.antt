@@ -1,7 +1,7 @@
 use Rattle.std.proofs.Common.{rules, ap, ◌∙◌, FitsSigned, w16, w32}
 use Rattle.std.proofs.lemmas.Int.{to_z-of_z}
 use Rattle.fixed_arith.specs.Word.{clip_word, shift_word_left}
-use Rattle.fixed_arith.proofs.WordLaws.{long_from_word, shl_word}
+use Rattle.fixed_arith.specs.WordLaws.{long_from_word, shl_word}
 use Rattle.fixed_arith.proofs.words.shift_left.Goals as goal
 
 pub returns : goal.returns

@@ -1,7 +1,7 @@
 use Rattle.std.proofs.Common.{rules, ◌≡◌, ◌++◌, [], ◌∷◌, length}
 use Rattle.std.proofs.lemmas.List.Elements.{All-from_recursion}
 use Rattle.frame_codec.specs.Frame.{SubFits}
-use Rattle.lar_filter.proofs.PartLaws.{pieces_are}
+use Rattle.lar_filter.specs.PartLaws.{pieces_are}
 use Rattle.fr_encoder.proofs.ExcitationLaws.{Excites-next}
 use Rattle.fr_encoder.proofs.CodingLaws.{Excites-four}
 use Rattle.fr_encoder.proofs.excitation.code_residual.Goals as goal

@@ -2,7 +2,7 @@ use Rattle.std.proofs.Common.{rules, arith, pos, negsuc, ◌+ℤ◌, ◌*ℤ◌,
 use Rattle.std.specs.Prelude.{unsigned_abs}
 use Rattle.std.specs.Int.{int_shr}
 use Rattle.std.proofs.lemmas.Int.{to_z-of_z, ints}
-use Rattle.fixed_arith.proofs.WordLaws.{long_from_shift}
+use Rattle.fixed_arith.specs.WordLaws.{long_from_shift}
 use Rattle.fr_encoder.specs.Preprocessing.{emphasised}
 use Rattle.fr_encoder.proofs.OffsetLaws.{high_small}
 use Rattle.fr_encoder.proofs.preprocessing.emphasise.Goals as goal

@@ -2,7 +2,7 @@ use Rattle.std.proofs.Common.{rules, arith, refl, ◌∙◌, pos, ◌+ℤ◌, �
 use Rattle.std.specs.Prelude.{unsigned_abs}
 use Rattle.std.specs.Int.{int_shr}
 use Rattle.std.proofs.lemmas.Int.{to_z-of_z, ints}
-use Rattle.fixed_arith.proofs.WordLaws.{long_from_shift, long_from_word}
+use Rattle.fixed_arith.specs.WordLaws.{long_from_shift, long_from_word}
 use Rattle.fr_encoder.specs.Preprocessing.{kept_long}
 use Rattle.fr_encoder.proofs.OffsetLaws.{high_small, low_fits, whole_fits}
 use Rattle.fr_encoder.proofs.preprocessing.keep.Goals as goal

@@ -25,11 +25,11 @@ play-preserved c =
 pub returns-then-same : goal.returns-then-same
 returns-then-same c =
     let was = c.play.invariant in
-    let both = decided c.args.seed c.args.items.now c.play.item-index c.args.samples.now was.0 c.play.left.now c.play.same c.is_empty.result c.play-test.false was.1.heard was.2 c.is_empty.ensures in
+    let both = decided c.heard_is_one.ensures c.args.seed c.args.items.now c.play.item-index c.args.samples.now was.0 c.play.left.now c.play.same c.is_empty.result c.play-test.false was.1.heard was.2 c.is_empty.ensures in
     (both.0 c.if-same.true, λ h. (both.1 h).1)
 
 pub returns-else-same : goal.returns-else-same
 returns-else-same c =
     let was = c.play.invariant in
-    let both = decided c.args.seed c.args.items.now c.play.item-index c.args.samples.now was.0 c.play.left.now c.play.same (nat_eq (length c.play.left.now) 0) c.play-test.false was.1.heard was.2 refl in
+    let both = decided c.heard_is_one.ensures c.args.seed c.args.items.now c.play.item-index c.args.samples.now was.0 c.play.left.now c.play.same (nat_eq (length c.play.left.now) 0) c.play-test.false was.1.heard was.2 refl in
     (λ (t : c.play.same ≡ true). let e : false ≡ true = sym c.if-same.false ∙ t in cc, λ h. (both.1 h).0)

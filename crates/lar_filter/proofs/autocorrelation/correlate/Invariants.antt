@@ -1,5 +1,5 @@
 use Rattle.std.proofs.Common.{pos}
-use Rattle.fixed_arith.proofs.Arrays.{Fills}
+use Rattle.fixed_arith.specs.ArrayLaws.{Fills}
 use Rattle.lar_filter.specs.Autocorrelation.{correlation}
 use Rattle.lar_filter.proofs.autocorrelation.correlate.Given as goal
 

@@ -1,7 +1,7 @@
 use Rattle.std.proofs.Common.{rules, arith, ◌≡◌, ◌+◌, ◌-◌, ◌*ℤ◌, ◌+ℤ◌, sym, refl, pos, FitsSigned, w16, w32, to_z}
 use Rattle.std.proofs.lemmas.Int.{to_z-of_z}
 use Rattle.fixed_arith.specs.Sums.{sum_below}
-use Rattle.fixed_arith.proofs.SumLaws.{sum_zero, sum_step}
+use Rattle.fixed_arith.specs.SumLaws.{sum_zero, sum_step}
 use Rattle.fixed_arith.specs.Signal.{at}
 use Rattle.lar_filter.specs.Autocorrelation.{correlation}
 use Rattle.lar_filter.proofs.ScaleLaws.{lagged_fits, lagged_fits_twice}

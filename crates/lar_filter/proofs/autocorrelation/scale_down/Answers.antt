@@ -1,7 +1,7 @@
 use Rattle.std.proofs.Common.{rules, arith, ◌∙◌, ◌<◌, ◌≤◌, ap, map, pos, inl, inr, FitsSigned, w16, length}
 use Rattle.std.proofs.lemmas.Int.{to_z-of_z}
 use Rattle.std.proofs.lemmas.Bool.{cases_lt}
-use Rattle.fixed_arith.proofs.Arrays.{MapsInPlace-whole}
+use Rattle.fixed_arith.specs.ArrayLaws.{MapsInPlace-whole}
 use Rattle.std.proofs.lemmas.List.{get_or_past}
 use Rattle.fixed_arith.specs.Signal.{at}
 use Rattle.lar_filter.specs.Autocorrelation.{scale_of, scaled_word}

@@ -1,4 +1,4 @@
-use Rattle.fixed_arith.proofs.Arrays.{MapsInPlace}
+use Rattle.fixed_arith.specs.ArrayLaws.{MapsInPlace}
 use Rattle.lar_filter.specs.Autocorrelation.{scaled_word}
 use Rattle.lar_filter.proofs.autocorrelation.scale_down.Given as goal
 

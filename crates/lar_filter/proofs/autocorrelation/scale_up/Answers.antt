@@ -1,5 +1,5 @@
 use Rattle.std.proofs.Common.{arith}
-use Rattle.fixed_arith.proofs.Arrays.{MapsInPlace-whole}
+use Rattle.fixed_arith.specs.ArrayLaws.{MapsInPlace-whole}
 use Rattle.lar_filter.proofs.autocorrelation.scale_up.Goals as goal
 
 pub returns : goal.returns

@@ -1,5 +1,5 @@
 use Rattle.fixed_arith.specs.Word.{shift_word_left}
-use Rattle.fixed_arith.proofs.Arrays.{MapsInPlace}
+use Rattle.fixed_arith.specs.ArrayLaws.{MapsInPlace}
 use Rattle.lar_filter.proofs.autocorrelation.scale_up.Given as goal
 
 abbrev pub invariant-loop-sample : goal.invariant-loop-sample

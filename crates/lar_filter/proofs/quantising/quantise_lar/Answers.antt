@@ -2,7 +2,7 @@ use Rattle.std.proofs.Common.{rules, refl, ◌∙◌, FitsSigned, w16}
 use Rattle.std.specs.Int.{int_shr}
 use Rattle.std.proofs.lemmas.Int.{to_z-of_z}
 use Rattle.lar_filter.specs.Quantising.{code_from}
-use Rattle.fixed_arith.proofs.WordLaws.{word_from_shift}
+use Rattle.fixed_arith.specs.WordLaws.{word_from_shift}
 use Rattle.lar_filter.proofs.quantising.quantise_lar.Goals as goal
 
 pub returns-clause-value : goal.returns-clause-value

@@ -1,5 +1,5 @@
 use Rattle.std.proofs.Common.{pos}
-use Rattle.fixed_arith.proofs.Arrays.{Fills}
+use Rattle.fixed_arith.specs.ArrayLaws.{Fills}
 use Rattle.fixed_arith.specs.Signal.{at}
 use Rattle.lar_filter.specs.Reflections.{normal_word}
 use Rattle.lar_filter.proofs.reflection.normalise.Given as goal

@@ -1,9 +1,9 @@
 use Rattle.std.proofs.Common.{rules, arith, ap, ◌∙◌, ◌≡◌, sym, pos, ◌≤ℤ◌, ◌-ℤ◌, FitsSigned, w16}
 use Rattle.std.proofs.lemmas.Int.{to_z-of_z, ints}
 use Rattle.fixed_arith.specs.Word.{div_words, abs_of_word}
-use Rattle.fixed_arith.proofs.LongLaws.{div_words_sign}
+use Rattle.fixed_arith.specs.LongLaws.{div_words_sign}
 use Rattle.lar_filter.specs.Reflections.{quotient_of}
-use Rattle.lar_filter.proofs.SchurLaws.{minus_is}
+use Rattle.lar_filter.specs.SchurLaws.{minus_is}
 use Rattle.lar_filter.proofs.reflection.quotient.Goals as goal
 
 ratio_sign : (c : goal.Then-x-gt0) → pos 0 ≤ℤ c.div_word-ratio.result

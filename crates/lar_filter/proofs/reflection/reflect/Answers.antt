@@ -3,7 +3,7 @@ use Rattle.std.proofs.lemmas.Int.{to_z-of_z}
 use Rattle.std.specs.Prelude.{int_lt}
 use Rattle.fixed_arith.specs.Word.{abs_of_word}
 use Rattle.fixed_arith.specs.Signal.{at}
-use Rattle.lar_filter.proofs.SchurLaws.{Reflects-stop, Reflects-more, Reflects-whole}
+use Rattle.lar_filter.specs.SchurLaws.{Reflects-stop, Reflects-more, Reflects-whole}
 use Rattle.lar_filter.proofs.reflection.reflect.Goals as goal
 
 pub loop-n-preserved : goal.loop-n-preserved

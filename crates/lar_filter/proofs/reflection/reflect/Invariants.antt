@@ -1,4 +1,4 @@
-use Rattle.lar_filter.proofs.SchurLaws.{Reflects}
+use Rattle.lar_filter.specs.SchurLaws.{Reflects}
 use Rattle.lar_filter.proofs.reflection.reflect.Given as goal
 
 abbrev pub invariant-loop-n : goal.invariant-loop-n

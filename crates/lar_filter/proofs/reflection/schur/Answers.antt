@@ -1,7 +1,7 @@
 use Rattle.std.proofs.Common.{rules, ◌∙◌, FitsSigned, w32}
 use Rattle.std.proofs.lemmas.Int.{to_z-of_z}
 use Rattle.fixed_arith.specs.Signal.{at}
-use Rattle.lar_filter.proofs.SchurLaws.{reflections_none, reflections_some}
+use Rattle.lar_filter.specs.SchurLaws.{reflections_none, reflections_some}
 use Rattle.lar_filter.proofs.reflection.schur.Goals as goal
 
 pub returns-then-acf-gt0 : goal.returns-then-acf-gt0

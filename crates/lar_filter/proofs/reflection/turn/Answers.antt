@@ -1,7 +1,7 @@
 use Rattle.std.proofs.Common.{rules, arith, ◌+◌, FitsSigned, w16}
 use Rattle.std.proofs.lemmas.Int.{to_z-of_z}
 use Rattle.fixed_arith.specs.Signal.{at}
-use Rattle.lar_filter.proofs.SchurLaws.{Turning-start, Turning-more}
+use Rattle.lar_filter.specs.SchurLaws.{Turning-start, Turning-more}
 use Rattle.lar_filter.proofs.reflection.turn.Goals as goal
 
 pub loop-m-init : goal.loop-m-init

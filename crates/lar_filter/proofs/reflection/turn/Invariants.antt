@@ -1,4 +1,4 @@
-use Rattle.lar_filter.proofs.SchurLaws.{Turning}
+use Rattle.lar_filter.specs.SchurLaws.{Turning}
 use Rattle.lar_filter.proofs.reflection.turn.Given as goal
 
 abbrev pub invariant-loop-m : goal.invariant-loop-m

@@ -1,6 +1,7 @@
 use Rattle.std.proofs.Common.{◌≡◌, ℕ, List, length, Some, arith}
 use Rattle.recorder.specs.Filing.{filer_head_fault}
-use Rattle.recorder.proofs.Taken.{told, fewer_of, fewer_taken}
+use Rattle.recorder.specs.PieceLaws.{told}
+use Rattle.recorder.proofs.Taken.{fewer_of, fewer_taken}
 use Rattle.recorder.proofs.filer_head.read_filer_head.Goals as goal
 
 pub returns-in-Err-filer_head_of-clause-fault : goal.returns-in-Err-filer_head_of-clause-fault

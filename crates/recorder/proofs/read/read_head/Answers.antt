@@ -1,6 +1,7 @@
 use Rattle.std.proofs.Common.{◌≡◌, ℕ, List, length, Some, arith}
 use Rattle.recorder.specs.Heads.{head_fault}
-use Rattle.recorder.proofs.Taken.{told, fewer_of, fewer_taken}
+use Rattle.recorder.specs.PieceLaws.{told}
+use Rattle.recorder.proofs.Taken.{fewer_of, fewer_taken}
 use Rattle.recorder.proofs.read.read_head.Goals as goal
 
 pub returns-in-Err-head_of-clause-fault : goal.returns-in-Err-head_of-clause-fault

@@ -1,6 +1,7 @@
 use Rattle.std.proofs.Common.{◌≡◌, ℕ, List, length, None, Some, arith}
 use Rattle.recorder.specs.Script.{file_fault}
-use Rattle.recorder.proofs.Taken.{told, fewer_of, fewer_taken}
+use Rattle.recorder.specs.PieceLaws.{told}
+use Rattle.recorder.proofs.Taken.{fewer_of, fewer_taken}
 use Rattle.recorder.proofs.script_read.read_file.Goals as goal
 
 pub returns-in-Ok-file_event-clause-fault : goal.returns-in-Ok-file_event-clause-fault

@@ -1,5 +1,5 @@
 use Rattle.std.proofs.Common.{pos, ◌+◌, ◌*◌}
-use Rattle.fixed_arith.proofs.Arrays.{Fills}
+use Rattle.fixed_arith.specs.ArrayLaws.{Fills}
 use Rattle.fixed_arith.specs.Signal.{at}
 use Rattle.rpe_ltp.proofs.grid.grid_of.Given as goal
 

@@ -2,7 +2,7 @@ use Rattle.std.proofs.Common.{rules, arith, sym, ◌≤◌, ◌+◌, ◌*◌, �
 use Rattle.std.specs.Prelude.{unsigned_abs}
 use Rattle.std.specs.Int.{int_shr}
 use Rattle.std.proofs.lemmas.Int.{to_z-of_z, fits_signed_from_abs}
-use Rattle.fixed_arith.proofs.SumLaws.{sum_zero, sum_step, abs_add_le}
+use Rattle.fixed_arith.specs.SumLaws.{sum_zero, sum_step, abs_add_le}
 use Rattle.fixed_arith.specs.Signal.{at}
 use Rattle.rpe_ltp.proofs.grid.power.Goals as goal
 

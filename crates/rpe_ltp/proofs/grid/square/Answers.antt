@@ -1,7 +1,7 @@
 use Rattle.std.proofs.Common.{arith, ◌*ℤ◌, FitsSigned, w16, w32}
 use Rattle.std.specs.Int.{int_shr}
 use Rattle.std.proofs.lemmas.Int.{to_z-of_z, fits_signed_from_abs}
-use Rattle.fixed_arith.proofs.WordLaws.{long_from_word, word_from_shift}
+use Rattle.fixed_arith.specs.WordLaws.{long_from_word, word_from_shift}
 use Rattle.rpe_ltp.proofs.WeightLaws.{quarter_square}
 use Rattle.rpe_ltp.proofs.grid.square.Goals as goal
 

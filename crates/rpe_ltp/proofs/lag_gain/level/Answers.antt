@@ -1,7 +1,7 @@
 use Rattle.std.proofs.Common.{refl, pos, ◌-◌, ◌*ℤ◌, FitsSigned, w32}
 use Rattle.std.specs.Int.{int_shr}
 use Rattle.std.proofs.lemmas.Int.{to_z-of_z}
-use Rattle.fixed_arith.proofs.WordLaws.{long_from_shift}
+use Rattle.fixed_arith.specs.WordLaws.{long_from_shift}
 use Rattle.rpe_ltp.proofs.LagLaws.{twice_fits}
 use Rattle.rpe_ltp.proofs.lag_gain.level.Goals as goal
 

@@ -1,8 +1,8 @@
 use Rattle.std.proofs.Common.{arith, refl, pos, ◌*ℤ◌, ◌^◌, FitsSigned, w16, w32}
 use Rattle.std.specs.Int.{int_shr}
 use Rattle.std.proofs.lemmas.Int.{to_z-of_z}
-use Rattle.fixed_arith.proofs.WordLaws.{long_from_shift}
-use Rattle.fixed_arith.proofs.LongLaws.{shl_long, normal_fits, word_from_long}
+use Rattle.fixed_arith.specs.WordLaws.{long_from_shift}
+use Rattle.fixed_arith.specs.LongLaws.{shl_long, normal_fits, word_from_long}
 use Rattle.rpe_ltp.proofs.lag_gain.normal.Goals as goal
 
 pub overflow_cast-result : goal.overflow_cast-result

@@ -2,7 +2,7 @@ use Rattle.std.proofs.Common.{rules, arith, sym, ◌≡◌, ◌+◌, ◌-◌, �
 use Rattle.std.specs.Int.{int_shr}
 use Rattle.std.proofs.lemmas.Int.{to_z-of_z}
 use Rattle.fixed_arith.specs.Sums.{sum_below}
-use Rattle.fixed_arith.proofs.SumLaws.{sum_zero, sum_step}
+use Rattle.fixed_arith.specs.SumLaws.{sum_zero, sum_step}
 use Rattle.fixed_arith.specs.Signal.{at}
 use Rattle.rpe_ltp.proofs.LagLaws.{square_fits, square_fits_twice, power_is}
 use Rattle.rpe_ltp.proofs.lag_gain.power.Goals as goal

@@ -2,7 +2,7 @@ use Rattle.std.proofs.Common.{rules, arith, ap, ◌∙◌, ◌≡◌, pos, map, 
 use Rattle.std.specs.Int.{int_shr}
 use Rattle.std.proofs.lemmas.Int.{to_z-of_z}
 use Rattle.std.proofs.lemmas.List.{length-map, get_or-map}
-use Rattle.fixed_arith.proofs.Arrays.{Fills-whole}
+use Rattle.fixed_arith.specs.ArrayLaws.{Fills-whole}
 use Rattle.fixed_arith.specs.Signal.{at}
 use Rattle.rpe_ltp.specs.LagSearch.{lag_scale}
 use Rattle.rpe_ltp.proofs.lag_search.scaled_down.Goals as goal

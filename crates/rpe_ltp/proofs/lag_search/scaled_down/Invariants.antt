@@ -1,7 +1,7 @@
 use Rattle.std.proofs.Common.{ℕ, ◌<◌, ◌≤◌, ◌^◌, pos}
 use Rattle.std.specs.Prelude.{unsigned_abs}
 use Rattle.std.specs.Int.{int_shr}
-use Rattle.fixed_arith.proofs.Arrays.{Fills}
+use Rattle.fixed_arith.specs.ArrayLaws.{Fills}
 use Rattle.fixed_arith.specs.Signal.{at}
 use Rattle.rpe_ltp.proofs.lag_search.scaled_down.Given as goal
 

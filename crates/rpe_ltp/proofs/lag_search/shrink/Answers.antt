@@ -3,8 +3,8 @@ use Rattle.std.specs.Prelude.{unsigned_abs}
 use Rattle.std.specs.Int.{int_shr}
 use Rattle.std.proofs.lemmas.Int.{to_z-of_z}
 use Rattle.std.proofs.lemmas.Nat.{pow-add}
-use Rattle.fixed_arith.proofs.WordLaws.{long_from_word}
-use Rattle.fixed_arith.proofs.WordLaws.{word_from_shift}
+use Rattle.fixed_arith.specs.WordLaws.{long_from_word}
+use Rattle.fixed_arith.specs.WordLaws.{word_from_shift}
 use Rattle.rpe_ltp.proofs.LagLaws.{shr_small}
 use Rattle.rpe_ltp.proofs.lag_search.shrink.Goals as goal
 

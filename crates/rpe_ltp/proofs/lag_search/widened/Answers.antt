@@ -1,5 +1,5 @@
 use Rattle.std.proofs.Common.{arith, refl, pos}
-use Rattle.fixed_arith.proofs.Arrays.{Fills-whole}
+use Rattle.fixed_arith.specs.ArrayLaws.{Fills-whole}
 use Rattle.fixed_arith.specs.Signal.{at}
 use Rattle.rpe_ltp.proofs.lag_search.widened.Goals as goal
 

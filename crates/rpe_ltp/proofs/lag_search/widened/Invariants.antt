@@ -1,6 +1,6 @@
 use Rattle.std.proofs.Common.{ℕ, ◌<◌, ◌≤◌, ◌^◌, pos}
 use Rattle.std.specs.Prelude.{unsigned_abs}
-use Rattle.fixed_arith.proofs.Arrays.{Fills}
+use Rattle.fixed_arith.specs.ArrayLaws.{Fills}
 use Rattle.fixed_arith.specs.Signal.{at}
 use Rattle.rpe_ltp.proofs.lag_search.widened.Given as goal
 

@@ -3,7 +3,7 @@ use Rattle.std.proofs.lemmas.Int.{to_z-of_z}
 use Rattle.std.proofs.lemmas.List.{length-map}
 use Rattle.std.proofs.lemmas.Simd.{get_or-replicate}
 use Rattle.fixed_arith.specs.Sums.{sum_below}
-use Rattle.fixed_arith.proofs.SumLaws.{sum_zero, sum_step}
+use Rattle.fixed_arith.specs.SumLaws.{sum_zero, sum_step}
 use Rattle.fixed_arith.specs.Signal.{at}
 use Rattle.rpe_ltp.specs.LagSearch.{sum_by_place}
 use Rattle.rpe_ltp.proofs.LaneLaws.{lane_kept}

@@ -1,5 +1,5 @@
 use Rattle.std.proofs.Common.{pos}
-use Rattle.fixed_arith.proofs.Arrays.{Fills}
+use Rattle.fixed_arith.specs.ArrayLaws.{Fills}
 use Rattle.rpe_ltp.specs.LagSearch.{sum_by_place}
 use Rattle.rpe_ltp.proofs.lag_sums.plain_sums.Given as goal
 

@@ -1,7 +1,7 @@
 use Rattle.std.proofs.Common.{rules, arith, ◌≡◌, ◌+◌, ◌*ℤ◌, ◌+ℤ◌, sym, FitsSigned, w32, to_z}
 use Rattle.std.proofs.lemmas.Int.{to_z-of_z}
 use Rattle.fixed_arith.specs.Sums.{sum_below}
-use Rattle.fixed_arith.proofs.SumLaws.{sum_zero, sum_step}
+use Rattle.fixed_arith.specs.SumLaws.{sum_zero, sum_step}
 use Rattle.fixed_arith.specs.Signal.{at}
 use Rattle.rpe_ltp.proofs.LagLaws.{place_fits}
 use Rattle.rpe_ltp.proofs.lag_sums.sum_at.Goals as goal

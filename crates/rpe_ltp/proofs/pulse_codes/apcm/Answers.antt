@@ -1,7 +1,7 @@
 use Rattle.std.proofs.Common.{rules, arith, ◌≡◌, ◌<◌, length, FitsSigned, w16}
 use Rattle.std.proofs.lemmas.Int.{to_z-of_z}
 use Rattle.fixed_arith.specs.Signal.{at}
-use Rattle.fixed_arith.proofs.GreatestLaws.{greatest_reaches}
+use Rattle.fixed_arith.specs.GreatestLaws.{greatest_reaches}
 use Rattle.rpe_ltp.proofs.PulseCodeLaws.{widths_fit}
 use Rattle.rpe_ltp.proofs.pulse_codes.apcm.Goals as goal
 

@@ -2,7 +2,7 @@ use Rattle.std.proofs.Common.{rules, refl, sym, ◌∙◌, ◌≡◌, ◌^◌, p
 use Rattle.std.specs.Int.{int_shr}
 use Rattle.std.proofs.lemmas.Int.{to_z-of_z}
 use Rattle.fixed_arith.specs.Signal.{at}
-use Rattle.fixed_arith.proofs.WordLaws.{word_from_shift}
+use Rattle.fixed_arith.specs.WordLaws.{word_from_shift}
 use Rattle.rpe_ltp.specs.PulseCodes.{reciprocals}
 use Rattle.rpe_ltp.proofs.PulseLaws.{word_at}
 use Rattle.rpe_ltp.proofs.PulseCodeLaws.{PulseFits, pulse_fits, step_of, step_is, IsStep, code_fits, code_below, code_casts, code_value, pulse_code_is}

@@ -3,7 +3,7 @@ use Rattle.std.specs.Int.{int_shr}
 use Rattle.std.proofs.lemmas.Int.{to_z-of_z, ints}
 use Rattle.rpe_ltp.specs.Pulses.{pulse_of, factors}
 use Rattle.rpe_ltp.proofs.PulseLaws.{word_at}
-use Rattle.fixed_arith.proofs.WordLaws.{word_from_shift}
+use Rattle.fixed_arith.specs.WordLaws.{word_from_shift}
 use Rattle.rpe_ltp.proofs.pulses.pulse.Goals as goal
 
 pub returns : goal.returns

@@ -3,8 +3,8 @@ use Rattle.std.specs.Prelude.{unsigned_abs}
 use Rattle.std.specs.Int.{int_shr}
 use Rattle.std.proofs.lemmas.Int.{to_z-of_z}
 use Rattle.fixed_arith.specs.Sums.{sum_below}
-use Rattle.fixed_arith.proofs.SumLaws.{sum_zero, sum_step}
-use Rattle.fixed_arith.proofs.WordLaws.{long_from_shift}
+use Rattle.fixed_arith.specs.SumLaws.{sum_zero, sum_step}
+use Rattle.fixed_arith.specs.WordLaws.{long_from_shift}
 use Rattle.fixed_arith.specs.Signal.{at}
 use Rattle.rpe_ltp.specs.Weighting.{response, weighted}
 use Rattle.rpe_ltp.proofs.PulseLaws.{word_at}

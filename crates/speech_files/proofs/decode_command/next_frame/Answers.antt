@@ -1,7 +1,7 @@
 use Rattle.std.proofs.Common.{◌≡◌, ℕ, ◌+◌, ◌*◌, List, length, take, None, Some, ap, ◌∙◌, arith}
 use Rattle.std.proofs.lemmas.List.{length-take-le, take_all}
 use Rattle.recorder.specs.declared.fault.RecordFault.TheVariants.{Cut, Field}
-use Rattle.recorder.proofs.Taken.{told}
+use Rattle.recorder.specs.PieceLaws.{told}
 use Rattle.speech_files.specs.Decode.{frame_fault}
 use Rattle.speech_files.proofs.FrameFaults.{frame-clear, frame-cut, frame-unsigned}
 use Rattle.speech_files.proofs.decode_command.next_frame.Goals as goal

@@ -1,7 +1,7 @@
 use Rattle.lar_filter.specs.Rising.{RisesTo}
 use Rattle.lar_filter.specs.RisingTrace.{RisesOver}
 use Rattle.std.proofs.Common.{rules, ◌≡◌, ◌++◌, length}
-use Rattle.lar_filter.proofs.PartLaws.{PassesFrame-from_parts, pieces_are}
+use Rattle.lar_filter.specs.PartLaws.{PassesFrame-from_parts, pieces_are}
 use Rattle.lar_filter.proofs.analysis.Analysis.run_frame.Goals as goal
 
 pub returns : goal.returns

@@ -1,7 +1,7 @@
 use Rattle.lar_filter.specs.Lattice.{StepsTo}
 use Rattle.lar_filter.specs.Trace.{Traces}
 use Rattle.std.proofs.Common.{rules, ◌≡◌, ◌++◌, length}
-use Rattle.lar_filter.proofs.PartLaws.{PassesFrame-from_parts, pieces_are}
+use Rattle.lar_filter.specs.PartLaws.{PassesFrame-from_parts, pieces_are}
 use Rattle.lar_filter.proofs.synthesis.Synthesis.run_frame.Goals as goal
 
 pub returns : goal.returns

@@ -1,4 +1,4 @@
--- The turns, as they are computed in place.
+-- The recursion of Schur: only the first values of its rows decide, and its turns as they are computed in place.
 use Rattle.std.proofs.Common.{◌≡◌, ◌≢◌, ℕ, zero, suc, ◌+◌, ◌-◌, ◌<◌, ◌≤◌, ℤ, pos, negsuc, true, false, List, [], ◌∷◌, ◌++◌, take, drop, replicate, length, length-set, length-drop, set, refl, ◌∙◌, ap, sym, arith, take-append-drop, get_or-set_same, get_or-set_other, inl, inr, append_assoc, append-nil}
 use Rattle.std.specs.Prelude.{int_lt, neg_ℤ, ◌-ℤ◌}
 use Rattle.std.proofs.lemmas.Bool.{cases_lt}
@@ -26,7 +26,7 @@ next_k_same : (r : ℤ) (turns : ℕ) (p k q l : ℕ → ℤ) → ((m : ℕ) →
 unfolding next_k
 next_k_same r turns p k q l ps ks m some most = rw (ps (m + 1) (omega arith), ks m some (omega arith)) refl
 
--- only the first values of the rows decide
+-- rows with the same first values have the same quotients
 pub quotients_same : (turns : ℕ) (p k q l : ℕ → ℤ) → ((m : ℕ) → m ≤ turns → p m ≡ q m) → ((m : ℕ) → 1 ≤ m → m ≤ turns → k m ≡ l m) → quotients turns p k ≡ quotients turns q l
 unfolding quotients
 quotients_same zero p k q l ps ks = refl
@@ -47,6 +47,7 @@ pub record Turning (r : ℤ) (p_old k_old p k : List ℤ) (m : ℕ) : Type 0 whe
   pub p_rest : (j : ℕ) → m ≤ j → at p j ≡ at p_old j
   pub k_rest : (j : ℕ) → m ≤ j → at k j ≡ at k_old j
 
+-- a turn begins with the first value of p
 pub Turning-start : (r : ℤ) (p k : List ℤ) (x : ℤ) → length p ≡ 9 → length k ≡ 9 → x ≡ add_words (at p 0) (mult_r_words (at p 1) r) → Turning r p k (set p 0 x) k 1
 unfolding next_p
 Turning-start r p k x p_size k_size is =
@@ -60,6 +61,7 @@ Turning-start r p k x p_size k_size is =
       k_rest = λ j h. refl;
     }
 
+-- one value more of both rows
 pub Turning-more : (r : ℤ) (p_old k_old p k : List ℤ) (m : ℕ) (x y : ℤ) → 1 ≤ m → m < 9 → Turning r p_old k_old p k m
     → x ≡ add_words (at p (m + 1)) (mult_r_words (at k m) r) → y ≡ add_words (at k m) (mult_r_words (at p (m + 1)) r) → Turning r p_old k_old (set p m x) (set k m y) (m + 1)
 unfolding next_k
@@ -109,6 +111,7 @@ zeros_left r n left size zeros =
     let inside : i < left = omega (arith, long) in
     rw (get_or-drop n r i (pos 0), get_or-replicate left i (pos 0) (pos 0) inside) (zeros (n + i) (omega arith)))
 
+-- where p(0) is below the magnitude of p(1), the zeros that are left are the other coefficients
 pub Reflects-stop : (values p k r : List ℤ) (n : ℕ) → n < 8 → Reflects values p k r n → int_lt (at p 0) (abs_of_word (at p 1)) ≡ true → r ≡ quotients 8 (at values) (at values)
 Reflects-stop values p k r n inside done low =
     let left : 8 - n ≡ suc (7 - n) = omega arith in
@@ -116,6 +119,7 @@ Reflects-stop values p k r n inside done low =
     rw left (zeros_left r n (suc (7 - n)) (omega (arith, done.r_size)) done.zeros ∙ sym (quotients_stop (7 - n) (at p) (at k) low)) in
     sym (take-append-drop n r) ∙ (rw rest done.told)
 
+-- one quotient more, and the rows of the next turn
 pub Reflects-more : (values p k r p_next k_next : List ℤ) (n : ℕ) (q : ℤ) → n < 8 → Reflects values p k r n → int_lt (at p 0) (abs_of_word (at p 1)) ≡ false
     → length p_next ≡ 9 → length k_next ≡ 9 → q ≡ quotient_of (at p 0) (at p 1)
     → ((m : ℕ) → m ≤ 7 - n → at p_next m ≡ next_p q (at p) (at k) m) → ((m : ℕ) → 1 ≤ m → m ≤ 7 - n → at k_next m ≡ next_k q (at p) (at k) m)
@@ -145,6 +149,7 @@ quotients_none : (p k : ℕ → ℤ) → quotients 0 p k ≡ []
 unfolding quotients
 quotients_none p k = refl
 
+-- before the first turn, all coefficients are zeros
 pub Reflects-start : (values r : List ℤ) → length values ≡ 9 → r ≡ replicate 8 (pos 0) → Reflects values values values r 0
 Reflects-start values r size zeros = record {
   p_size = size;
@@ -154,6 +159,7 @@ Reflects-start values r size zeros = record {
   told = refl;
 }
 
+-- behind the eighth turn, all coefficients are there
 pub Reflects-whole : (values p k r : List ℤ) (n : ℕ) → n ≡ 8 → Reflects values p k r n → r ≡ quotients 8 (at values) (at values)
 Reflects-whole values p k r n end done =
     let none : 8 - n ≡ 0 = omega arith in
@@ -161,15 +167,18 @@ Reflects-whole values p k r n end done =
     let front : take n r ≡ r = rw all (take-length r) in
     sym (append-nil r) ∙ (rw (front, none, quotients_none (at p) (at k)) at done.told)
 
+-- 0 less a value is its negative
 pub minus_is : (z : ℤ) → pos 0 -ℤ z ≡ neg_ℤ z
 minus_is (pos zero) = refl
 minus_is (pos (suc n)) = omega (arith, ints)
 minus_is (negsuc n) = omega (arith, ints)
 
+-- where the first value is not above 0, all coefficients are 0
 pub reflections_none : (acf : ℕ → ℤ) → int_lt (pos 0) (acf 0) ≡ false → replicate 8 (pos 0) ≡ reflections acf
 unfolding reflections
 reflections_none acf none = rw none refl
 
+-- where it is, they are the quotients of the rows of normal words
 pub reflections_some : (acf values : ℕ → ℤ) → int_lt (pos 0) (acf 0) ≡ true → ((m : ℕ) → m ≤ 8 → values m ≡ normal_word (acf 0) (acf m)) → quotients 8 values values ≡ reflections acf
 unfolding reflections
 reflections_some acf values some each = rw some (quotients_same 8 values values (λ m. normal_word (acf 0) (acf m)) (λ m. normal_word (acf 0) (acf m)) each (λ m low most. each m most))

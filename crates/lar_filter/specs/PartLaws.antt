@@ -1,14 +1,13 @@
--- Inputs of a filter, part by part.
+-- Inputs of a filter, part by part: how the four parts of a frame make up the frame, and what a signal was before.
 use Rattle.std.proofs.Common.{◌≡◌, ℕ, ◌+◌, ◌-◌, ◌<◌, ◌≤◌, ℤ, pos, List, [], ◌++◌, length, take, drop, refl, sym, ◌∙◌, ap, arith, length-append, append_assoc, inl, inr}
-use Rattle.std.proofs.lemmas.Bool.{cases_lt}
-use Rattle.std.proofs.lemmas.Bool.Decides.{nat_tests}
+use Rattle.std.proofs.lemmas.Bool.{cases_lt, lt-ltb, le-ltb, le-leb, lt-leb}
 use Rattle.std.proofs.lemmas.List.{get_or_append_left, get_or-append_right, take-append-drop, length-map, get_or-map}
 use Rattle.fixed_arith.specs.Signal.{at, past}
 use Rattle.lar_filter.specs.Coefficients.{between, coefficient_of}
 use Rattle.lar_filter.specs.Runs.{Runs, inputs_of}
 use Rattle.lar_filter.specs.Parts.{part_of, IsPart, IsFed, frame_coefficient, PassesFrame}
 
--- the same coefficients by another count of time
+-- inputs that are fed by some coefficients are fed by any that are the same by another count of time
 pub IsFed-same : (rp other : ℕ → ℕ → ℤ) (first from : ℕ) (values : List ℤ) (inputs : List (List ℤ × ℤ)) → IsFed rp first values inputs
     → ((i k : ℕ) → i < 8 → k < length values → rp i (first + k) ≡ other i (from + k)) → IsFed other from values inputs
 IsFed-same rp other first from values inputs fed same = record {
@@ -17,6 +16,7 @@ IsFed-same rp other first from values inputs fed same = record {
   samples = fed.samples;
 }
 
+-- inputs behind one another are fed with the values behind one another
 pub IsFed-append : (rp : ℕ → ℕ → ℤ) (first : ℕ) (xs ys : List ℤ) (ins outs : List (List ℤ × ℤ)) → IsFed rp first xs ins → IsFed rp (first + length xs) ys outs → IsFed rp first (xs ++ ys) (ins ++ outs)
 IsFed-append rp first xs ys ins outs front back = record {
   count = omega (arith, length-append ins outs, length-append xs ys, front.count, back.count);
@@ -41,7 +41,7 @@ IsFed-append rp first xs ys ins outs front back = record {
   ];
 }
 
--- values that share their coefficients
+-- values that share the coefficients of a part are fed with the coefficients of the frame
 pub IsFed-part : (before now rp values : List ℤ) (part first : ℕ) → IsPart before now part rp
     → ((k : ℕ) → k < length values → part_of (first + k) ≡ part) → IsFed (frame_coefficient before now) first values (inputs_of rp values)
 IsFed-part before now rp values part first rp_is part_is =
@@ -54,22 +54,25 @@ IsFed-part before now rp values part first rp_is part_is =
       samples = λ k inside. ap (λ (found : List ℤ × ℤ). found.1) (get_or-map pair values k (pos 0) ([], pos 0) inside);
     }
 
--- where the parts of a frame lie
+-- the first 13 samples of a frame are in part 0
 pub part_of-first : (k : ℕ) → k < 13 → part_of k ≡ 0
 unfolding part_of
-part_of-first k high = grind (arith, nat_tests)
+part_of-first k high = rw (lt-ltb k 13 high) refl
 
+-- the next 14 in part 1
 pub part_of-second : (k : ℕ) → 13 ≤ k → k < 27 → part_of k ≡ 1
 unfolding part_of
-part_of-second k low high = grind (arith, nat_tests)
+part_of-second k low high = rw (le-ltb k 13 low, lt-ltb k 27 high) refl
 
+-- the next 13 in part 2
 pub part_of-third : (k : ℕ) → 27 ≤ k → k < 40 → part_of k ≡ 2
 unfolding part_of
-part_of-third k low high = grind (arith, nat_tests)
+part_of-third k low high = rw (le-ltb k 13 (omega arith), le-ltb k 27 low, lt-ltb k 40 high) refl
 
+-- and all others in part 3
 pub part_of-fourth : (k : ℕ) → 40 ≤ k → part_of k ≡ 3
 unfolding part_of
-part_of-fourth k low = grind (arith, nat_tests)
+part_of-fourth k low = rw (le-ltb k 13 (omega arith), le-ltb k 27 (omega arith), le-ltb k 40 low) refl
 
 parts_fed : (before now rp0 rp1 rp2 rp3 x0 x1 x2 x3 : List ℤ) → length x0 ≡ 13 → length x1 ≡ 14 → length x2 ≡ 13
     → IsPart before now 0 rp0 → IsPart before now 1 rp1 → IsPart before now 2 rp2 → IsPart before now 3 rp3
@@ -85,6 +88,7 @@ parts_fed before now rp0 rp1 rp2 rp3 x0 x1 x2 x3 size0 size1 size2 is0 is1 is2 i
     (IsFed-part before now rp2 x2 2 (0 + length (x0 ++ x1)) is2 (λ k h. part_of-third (0 + length (x0 ++ x1) + k) (omega arith) (omega arith))))
     (IsFed-part before now rp3 x3 3 (0 + length ((x0 ++ x1) ++ x2)) is3 (λ k h. part_of-fourth (0 + length ((x0 ++ x1) ++ x2) + k) (omega arith)))
 
+-- four runs, each over the values of a part with its coefficients, are the frame's run
 pub PassesFrame-from_parts : (Step : List ℤ → List ℤ → ℤ → ℤ → List ℤ → Type 0) (Solves : List ℤ → List (List ℤ × ℤ) → List ℤ → List ℤ → Type 0)
     (before now rp0 rp1 rp2 rp3 values x0 x1 x2 x3 start : List ℤ) (inputs : List (List ℤ × ℤ)) (ys y0 y1 y2 y3 after : List ℤ)
     → values ≡ x0 ++ (x1 ++ (x2 ++ x3)) → length x0 ≡ 13 → length x1 ≡ 14 → length x2 ≡ 13
@@ -118,9 +122,10 @@ pieces_are xs a rest b rest' c d m n k a_is rest_is b_is rest'_is c_is d_is =
     let first : a ++ rest ≡ xs = rw (a_is, rest_is) (take-append-drop m xs) in
     rw (last, middle, first) refl
 
--- times before and after the first one
+-- from time n on, the value n places back is the signal's
 pub past_reached : (f : ℕ → ℤ) (t n : ℕ) → n ≤ t → past f t n ≡ f (t - n)
-past_reached f t n h = grind (arith, nat_tests)
+past_reached f t n h = rw (le-leb n t h) refl
 
+-- before time n, the value n places back is 0
 pub past_before : (f : ℕ → ℤ) (t n : ℕ) → t < n → past f t n ≡ pos 0
-past_before f t n h = grind (arith, nat_tests)
+past_before f t n h = rw (lt-leb n t h) refl

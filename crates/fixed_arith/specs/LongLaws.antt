@@ -11,7 +11,7 @@ use Rattle.fixed_arith.specs.Word.{IsNorm, div_words}
 pub div_words_sign : (a b : ℤ) → pos 0 ≤ℤ a → pos 0 ≤ℤ b → pos 0 ≤ℤ div_words a b
 unfolding div_words
 div_words_sign (pos zero) b low high = omega (arith, ints)
-div_words_sign (pos (suc a)) (pos b) low high = grind (arith, ints, clamps)
+div_words_sign (pos (suc a)) (pos b) low high = omega (arith, ints, clamps)
 div_words_sign (pos (suc a)) (negsuc b) low high = absurd (omega (arith, ints))
 div_words_sign (negsuc a) b low high = absurd (omega (arith, ints))
 
