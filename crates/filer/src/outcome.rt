@@ -23,7 +23,7 @@ pub enum OutcomeEnd {
     Empty,
     /// A packet of another source than the held one.
     Stranger { ssrc: u32, held: u32 },
-    /// The frames were filed, under `first` and the numbers behind it, with these replies.
+    /// The frames were filed, under `first` and the numbers that follow it, with these replies.
     Filed { first: u64, replies: Replies },
 }
 

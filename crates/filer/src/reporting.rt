@@ -7,7 +7,7 @@ use rtcp_stats::{Receiver, ReportBlock};
 use rtp_codec::RtpHead;
 use std::marker::Model;
 
-/// Statistics, with a report due after every so many valid packets.
+/// Statistics, with a report due each time a given number of valid packets has come.
 #[derive(Clone, Copy, Debug)]
 pub struct Reporting {
     every: u32,

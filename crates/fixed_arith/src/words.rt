@@ -72,7 +72,7 @@ pub fn div_word(a: i16, b: i16) -> i16
     quotient.min(32767) as i16
 }
 
-/// The value shifted left by so many places, limited.
+/// The value shifted left by this many places, limited.
 #[inline]
 #[tactic(auto, unfolding(crate::specs::Word::shift_word_left))]
 pub fn shift_left(a: i16, n: u32) -> i16

@@ -1,4 +1,4 @@
-// The encoder's front: from samples to the codes of the ratios and the short-term residual, GSM 06.10 sections 5.2.1 to 5.2.10.
+// The encoder's first part: from samples to the codes of the ratios and the short-term residual, GSM 06.10 sections 5.2.1 to 5.2.10.
 ghost use Rattle.std.specs.Prelude.{◌≡◌, ◌<◌, ◌∷◌, ◌++◌, [], ℕ, ℤ, List, slice_index};
 ghost use Rattle.fr_encoder.specs.Fronting.{Fronts};
 
@@ -24,7 +24,7 @@ impl Model for Front {
 }
 
 impl Front {
-    /// A front that was given no piece.
+    /// An encoder's front that was given no piece.
     pub fn new() -> Self
         ensures { Fronts [] [] [] result }
     {

@@ -6,7 +6,7 @@ use crate::encoder::Encoder;
 use frame_codec::Params;
 
 /// Whether these frames are the coded speech of the pieces, each of 160 samples of 16 bits at 8 kHz: one frame for each
-/// piece, and none behind them. It takes no memory.
+/// piece, and none after them. It takes no memory.
 pub fn is_coding(pieces: &[[i16; 160]], frames: &[Params]) -> bool
     ensures { IsTrue result ↔ IsCoded (flat_map (λ piece. piece) pieces.now) frames.now }
 {

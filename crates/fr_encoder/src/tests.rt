@@ -92,7 +92,7 @@ fn the_greatest_and_the_least_word_by_turns(rt: HostRuntime) {
     }
 }
 
-/// The next piece of noise, shifted down by so many places modulo 16.
+/// The next piece of noise, shifted down by this many places modulo 16.
 fn noise(seed: &mut u32, places: u32) -> [i16; 160] {
     let mut word = *seed;
     let mut samples = [0i16; 160];

@@ -1,4 +1,4 @@
-//! What crates that do not stand on each other share: want of memory, and counts of faults.
+//! What crates that do not depend on each other share: the out-of-memory error, and counts of faults.
 #![tactic(auto)]
 
 mod faults;

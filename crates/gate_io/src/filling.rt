@@ -7,7 +7,7 @@ ghost use Rattle.gate_io.specs.Flow.{ConsumesFewer, Fills};
 use crate::failed::Failed;
 use crate::source::Source;
 
-/// Takes until the piece is full or nothing is left, and answers how many octets came into its front.
+/// Takes until the piece is full or nothing is left, and answers how many octets came.
 ///
 /// A call that fails has taken fewer octets than the piece has, which are lost.
 pub fn fill<I: Source>(source: &mut I, into: &mut [u8]) -> Result<usize, Failed>

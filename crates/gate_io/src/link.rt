@@ -17,7 +17,7 @@ pub trait Link {
     /// How often a call has failed. It never falls.
     ghost faults: { Self → ℕ };
 
-    /// Takes the next datagram into the front of the piece, or tells that there is none. A longer one than 2048
+    /// Takes the next datagram into the beginning of the piece, or answers that there is none. A longer one than 2048
     /// octets is cut. It may wait.
     fn receive(&mut self, into: &mut [u8; 2048]) -> Result<Received, Failed>
         ensures within { IfOk result (IsWithin 2048) }

@@ -6,7 +6,7 @@ ghost use Rattle.gate_io.specs.declared.tick_clock.TickNext.{TickNext};
 use crate::tick_clock::{TickClock, TickNext};
 use std::marker::Model;
 
-/// Gives so many ticks at once, and then has ended.
+/// Gives a fixed number of ticks at once, and then has ended.
 #[derive(Clone, Copy, Debug)]
 pub struct MemoryClock {
     ticks: u64,
@@ -28,7 +28,7 @@ impl Model for MemoryClock {
 }
 
 impl MemoryClock {
-    /// A clock that is to give so many ticks.
+    /// A clock that is to give this many ticks.
     pub fn new(ticks: u64) -> Self
         ensures { result ≡ record { ticks = 0; left = ticks; ended = false } }
     {

@@ -47,7 +47,7 @@ impl Model for MemoryLink {
 }
 
 impl MemoryLink {
-    /// A link with room for so many sent datagrams of up to 2048 octets, all reserved here. `fails` lists the
+    /// A link with room for `room` sent datagrams of up to 2048 octets, all reserved here. `fails` lists the
     /// numbers, from 0, of the sends that fail.
     pub fn new(
         alloc: Global,
@@ -107,7 +107,7 @@ impl MemoryLink {
     }
 }
 
-/// Answers an entry. A datagram goes to the front of the piece.
+/// Answers an entry. A datagram goes to the beginning of the piece.
 fn answer(entry: &LinkEntry, into: &mut [u8; 2048]) -> Result<Received, Failed>
     ensures answer { result ≡ answer_to entry.now }
     ensures octets { take (size_of entry.now) into.new ≡ octets_of entry.now }
@@ -139,7 +139,7 @@ impl Link for MemoryLink {
 
     ghost faults = { λ s. s.faults };
 
-    /// Answers the next entry, and behind the last one that it has ended. Only an entry that says so fails, and
+    /// Answers the next entry, and after the last one that it has ended. Only an entry that says so fails, and
     /// each of them is one fault more.
     fn receive(&mut self, into: &mut [u8; 2048]) -> Result<Received, Failed>
         ensures within { IfOk result (IsWithin 2048) }

@@ -1,4 +1,4 @@
-// A sink in memory, whose calls fail where they are told to.
+// A sink in memory, whose calls fail where a list says so.
 ghost use Rattle.std.specs.Prelude.{◌≡◌, ◌+◌, ◌-◌, ◌^◌, ◌≤◌, min, ◌↔◌, [], ◌++◌, length, take, Some, None, IsOk, IfOk, is_ok, if◌then◌else◌};
 ghost use Rattle.gate_base.specs.Faults.{HasCause};
 ghost use Rattle.gate_io.specs.Flow.{Gives};
@@ -10,7 +10,7 @@ use gate_base::{FaultCount, OutOfMemory};
 use std::alloc::Global;
 use std::marker::Model;
 
-/// Keeps what it is given, as far as it has room. The listed calls keep at most so many octets, and fail.
+/// Keeps what it is given, as far as it has room. The listed calls keep at most the listed number of octets, and fail.
 #[derive(Drop)]
 pub struct MemorySink {
     bytes: Vec<u8>,
@@ -32,8 +32,8 @@ impl Model for MemorySink {
 }
 
 impl MemorySink {
-    /// An empty sink with room for so many octets, all reserved here. In a pair of `fails` stand the number
-    /// of a call, from 0, and how many octets it keeps; of several pairs for one call the first decides.
+    /// An empty sink with room for `room` octets, all reserved here. A pair of `fails` has the number of a call,
+    /// from 0, and how many octets it keeps; of several pairs for one call the first decides.
     pub fn new(alloc: Global, room: usize, fails: &[(u64, usize)]) -> Result<Self, OutOfMemory>
         ensures { IfOk result (λ s. s ≡ record { octets = []; room = room; fails = fails.now; calls = 0; faults = 0 }) }
     {

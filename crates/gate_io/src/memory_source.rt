@@ -1,4 +1,4 @@
-// A source in memory, whose calls fail where they are told to.
+// A source in memory, whose calls fail where a list says so.
 ghost use Rattle.std.specs.Prelude.{◌≡◌, ◌+◌, ◌-◌, ◌^◌, ◌≤◌, min, ◌↔◌, length, take, Some, IsErr, IfOk, Contains, is_ok, if◌then◌else◌};
 ghost use Rattle.std.specs.Io.{ReadsAtMost};
 ghost use Rattle.std.specs.Io.KnownBytes.{ReadConsumes};
@@ -54,7 +54,7 @@ impl MemorySource {
     }
 }
 
-/// Copies as much of the front as fits, and at most a piece.
+/// Copies as many of the next octets as fit, and at most a piece.
 fn copy_front(from: &[u8], into: &mut [u8], piece: usize) -> usize
     ensures count { result ≡ min (min piece (length into.old)) (length from.now) }
     ensures copied { take result into.new ≡ take result from.now }

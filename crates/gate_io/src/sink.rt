@@ -16,7 +16,7 @@ pub trait Sink {
     /// What a later state of the sink has in common with an earlier one.
     ghost kin: { Self → Self → Type 0 };
 
-    /// Gives all of the octets. A call that fails has given some of them, from the front.
+    /// Gives all of the octets. A call that fails has given a prefix of them.
     fn give(&mut self, from: &[u8]) -> Result<(), Failed>
         ensures given { Gives (given self.old) (given self.new) result from.now }
         ensures cause { HasCause (faults self.old) (faults self.new) result }

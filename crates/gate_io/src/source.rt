@@ -14,7 +14,7 @@ pub trait Source {
     /// How often a call has failed. It never falls.
     ghost faults: { Self → ℕ };
 
-    /// Takes the next octets into the front of the piece, and answers how many came.
+    /// Takes the next octets into the beginning of the piece, and answers how many came.
     ///
     /// None for a piece that is not empty is the end of the input. A call that fails leaves what is to come
     /// as it was.

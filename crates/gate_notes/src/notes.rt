@@ -12,7 +12,7 @@ use gate_io::{Failed, Sink};
 use playout::FileReply;
 use recorder::{PlayTally, RecordFault, Tally};
 
-/// Notes that the words are no line of the program.
+/// Notes that the arguments are not a valid command line.
 pub fn give_usage<E: Sink>(notes: &mut E) -> Result<(), Failed>
     ensures given { Gives (E.given notes.old) (E.given notes.new) result usage_line }
     ensures cause { HasCause (E.faults notes.old) (E.faults notes.new) result }
@@ -21,7 +21,7 @@ pub fn give_usage<E: Sink>(notes: &mut E) -> Result<(), Failed>
     notes.give(b"usage\n")
 }
 
-/// Notes that the words are no line. A fault of the notes changes nothing in the answer.
+/// Notes that the arguments are not valid. A fault of the notes changes nothing in the answer.
 pub fn refuse_words<E: Sink>(notes: &mut E) -> Status
     ensures status { result ≡ Status.Usage }
     ensures noted { GainedUnlessFault (E.given notes.old) (E.given notes.new) (E.faults notes.old) (E.faults notes.new) usage_line }

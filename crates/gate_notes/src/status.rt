@@ -12,7 +12,7 @@ pub enum Status {
     Done,
     /// The journals have no legal history.
     Illegal,
-    /// The words are no line of the program, or other objects were handed in than they name.
+    /// The arguments are not a valid command line, or other objects were handed in than they name.
     Usage,
     /// An input is not in its grammar.
     Input,

@@ -26,7 +26,7 @@ impl Model for Life {
 }
 
 impl Life {
-    /// A life that begins now, and is a second longer than so many ticks.
+    /// A life that begins now, and is a second longer than this many ticks.
     pub(crate) fn new<R: Clock>(rt: &R, ticks: u64) -> Self
         ensures { result.lasts ≡ lasting ticks }
     {

@@ -11,7 +11,7 @@ use std::marker::Model;
 use std::thread;
 use std::time::{Clock, Duration};
 
-/// So many ticks of the system's clock, one each 20 ms from its start on, and then the end.
+/// A fixed number of ticks of the system's clock, one each 20 ms from its start on, and then the end.
 ///
 /// Each tick has its time counted from the start, so that late ones do not add up: a tick whose time has passed comes
 /// at once. Where the clock cannot be read, a tick comes 20 ms after its call.
@@ -40,7 +40,7 @@ impl<'a, R: Clock> Model for OsClock<'a, R> {
 }
 
 impl<'a, R: Clock + Sync> OsClock<'a, R> {
-    /// A clock that is to give so many ticks. Its first tick is due 20 ms from now.
+    /// A clock that is to give this many ticks. Its first tick is due 20 ms from now.
     pub fn new(rt: &'a R, ticks: u64) -> Self
         ensures { result ≡ record { ticks = 0; left = ticks; ended = false; begun = result.begun; read = result.begun; slept = 0 } }
     {
@@ -49,7 +49,7 @@ impl<'a, R: Clock + Sync> OsClock<'a, R> {
 }
 
 impl<'a, R: Clock> OsClock<'a, R> {
-    /// A clock that is to give so many ticks, the first of them 20 ms after this reading.
+    /// A clock that is to give this many ticks, the first of them 20 ms after this reading.
     pub fn starting(rt: &'a R, start: Reading, ticks: u64) -> Self
         ensures { result ≡ record { ticks = 0; left = ticks; ended = false; begun = nanos_of start; read = nanos_of start; slept = 0 } }
     {

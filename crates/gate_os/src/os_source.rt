@@ -30,7 +30,7 @@ impl<R: Files> Model for OsSource<R> {
 }
 
 impl<R: Files> OsSource<R> {
-    /// Opens the file at this path. Only want of memory for the buffer is answered here.
+    /// Opens the file at this path. The only error that is answered here is that there is no memory for the buffer.
     pub fn open(rt: &R, alloc: Global, path: &str) -> Result<Self, OutOfMemory>
         ensures { IfOk result (λ s. s.faults ≡ 0) }
     {

@@ -12,7 +12,7 @@ const AFTER: u64 = 1000;
 
 const PATIENCE: u64 = 5;
 
-/// The time of so many ticks.
+/// The time of this many ticks.
 pub(crate) fn time_of(ticks: u64) -> Duration
     ensures { as_nanos result ≡ ticks_time ticks }
 {
@@ -30,7 +30,7 @@ pub(crate) fn left_to(tick: u64, passed: Option<Duration>) -> Duration
     }
 }
 
-/// How long a link lasts that is to be there a second longer than so many ticks.
+/// How long a link lasts that is to be there a second longer than this many ticks.
 pub(crate) fn life_of(ticks: u64) -> Duration
     ensures { as_nanos result ≡ lasting ticks }
 {

@@ -50,7 +50,7 @@ impl<'a, R: Clock> Model for UdpLink<'a, R> {
 impl<'a, R: Net + Clock + Wait + Sync> UdpLink<'a, R> {
     /// Binds a socket at `here`. Datagrams go to `there`, or to the last sender where `there` is empty; both are an
     /// address and a port. A `there` that is not empty and names no address is taken as a socket that could not be
-    /// bound. Only want of memory is answered here.
+    /// bound. The only error that is answered here is that memory is out.
     pub fn bind(
         rt: &'a R,
         alloc: Global,
@@ -91,7 +91,7 @@ impl<'a, R: Net + Clock + Wait + Sync> UdpLink<'a, R> {
     /// A link for what goes back to `there`, an address and a port, from the port of this link: a caller that takes speech only
     /// from where it sends to, or sends to where speech comes from, is served so (RFC 4961). Where this link is not bound, or
     /// `there` is of another family of addresses, the system chooses a port. It is for sending: a datagram that is received over it does not come
-    /// over this link. Only want of memory is answered here.
+    /// over this link. The only error that is answered here is that memory is out.
     pub fn answering(&self, alloc: Global, there: &str, ticks: u64) -> Result<Self, OutOfMemory>
         ensures ended { IfOk result (λ s. s.ended ≡ false) }
         ensures life { IfOk result (λ s. s.life.lasts ≡ lasting ticks) }

@@ -85,7 +85,7 @@ impl PolledSocket {
         Ok(!self.events.is_empty())
     }
 
-    /// The next datagram with its sender, or none. It waits only behind a read that found nothing, and reads only where
+    /// The next datagram with its sender, or none. It waits only after a read that found nothing, and reads only where
     /// something may be there, so that a turn in vain is one call of the system. A datagram that is longer than the piece
     /// is cut by the system.
     pub(crate) fn take(&mut self, into: &mut [u8]) -> io::Result<Option<(usize, SocketAddr)>>

@@ -20,8 +20,8 @@ use std::alloc::Global;
 
 /// Does the command of the words over the inputs, the output and the notes that are handed in.
 ///
-/// `Usage` comes exactly where the words are no line over files, or another number of inputs was handed in than they
-/// name, but for want of memory: nothing is taken then, and nothing given but the line `usage` to the notes.
+/// `Usage` comes exactly where the arguments are not a valid command over files, or another number of inputs was handed in than they
+/// name, unless memory is out: nothing is taken then, and nothing given but the line `usage` to the notes.
 pub fn run_offline<I: Source, O: Sink, E: Sink>(
     alloc: Global,
     words: &Vec<String>,

@@ -65,7 +65,7 @@ fn filer_journal(alloc: Global, prefix: &str, filer: usize) -> Result<String, Al
     Ok(text)
 }
 
-// The names of the journals of a line with so many filers.
+// The names of the journals of a line with this many filers.
 fn journals(alloc: Global, prefix: &str, filers: usize) -> Result<Vec<String>, AllocError>
     ensures { IfOk result (λ v. map string_bytes v.items ≡ journals_of prefix.now filers) }
 {
@@ -121,7 +121,7 @@ fn places_of(alloc: Global, line: &Line<'_>) -> Result<Places, AllocError>
     }
 }
 
-/// The places that the words name: `Usage` exactly where they are no line of the program, but for want of memory.
+/// The places that the arguments name: `Usage` exactly where they are not a valid command line, unless memory is out.
 pub fn addresses(alloc: Global, words: &Vec<String>) -> Result<Places, Status>
     ensures ok { IfOk result (λ p. IfSome (line_of (map string_bytes words.now.items)) (λ said. ArePlaces said p)) }
     ensures line { IfOk result (λ p. IsSome (line_of (map string_bytes words.now.items))) }

@@ -1,4 +1,4 @@
-// What a line of the program comes to: its objects are opened, and then it runs over them.
+// What a command line results in: its objects are opened, and then it runs over them.
 ghost use Rattle.std.specs.Prelude.{◌≡◌, ◌≤◌, ◌⊎◌, ◌↔◌, ℕ, Some, None, true, false, map, length, IsErr, IfOk, IfSome};
 ghost use Rattle.std.specs.String.{string_bytes};
 ghost use Rattle.std.specs.Io.KnownBytes.{Appends};
@@ -61,7 +61,7 @@ pub enum Started<I, O, G> {
     Serve(ServeOpen<G>),
 }
 
-/// What the words come to over the system's files, sockets and clock.
+/// What the arguments result in over the system's files, sockets and clock.
 pub type OsStarted<'a, R> = Started<OsSource<R>, OsSink<'a, R>, OsGateway<'a, R>>;
 
 // The files of a command over files.
@@ -119,7 +119,7 @@ fn open_words<'a, R: Net + Clock + Wait + Files + Print + Sync + AllocGlobal, E:
     }
 }
 
-/// Opens what the words name: the files of a command over files, or the gateway of a line of serve. Words that are no line are
+/// Opens what the words name: the files of a command over files, or the gateway of a line of serve. Arguments that are not valid are
 /// refused by the line `usage` to the notes. Where there was no memory for the words, or there is none for what they name, that
 /// is how they end.
 pub fn start<'a, R: Net + Clock + Wait + Files + Print + Sync + AllocGlobal, E: Sink>(

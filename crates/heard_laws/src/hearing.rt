@@ -7,7 +7,7 @@ use frame_codec::Item;
 use substitution::Voice;
 
 /// Whether these samples, of 16 bits at 8 kHz, are what a voice of this seed plays of the items: 160 for each, and none
-/// behind them. It takes no memory.
+/// after them. It takes no memory.
 pub fn is_heard(seed: [u8; 32], items: &[Item], samples: &[i16]) -> bool
     ensures { IsTrue result ↔ IsHeard seed items.now samples.now }
 {

@@ -19,7 +19,7 @@ pub fn heard_is_one()
 
 /// A player's journal of the calls of any beats is whole, and rendering it to its end gives the very samples that are
 /// heard of the calls, which are those that a speaker gets. Where a give or a read fails, rendering has given what is
-/// heard of all calls that were read; where a give failed, but for the last one, and a front of that.
+/// heard of all calls that were read; where a give failed, but for the last one, and a prefix of that.
 pub fn journal_renders()
     ensures { JournalRenders }
 {

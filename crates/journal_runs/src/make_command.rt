@@ -10,7 +10,7 @@ use gate_notes::{Status, give_summary};
 use replay_check::{Made, make_script};
 use std::alloc::Global;
 
-/// Makes a script of so many rounds, 1 to 1000000, for so many filers, 1 to 64: each round is a File and a Tick. The output
+/// Makes a script of `count` rounds, 1 to 1000000, for 1 to 64 filers: each round is a File and a Tick. The output
 /// gets the script, and the notes the summary of its run.
 ///
 /// Memory is wanted before anything is given.

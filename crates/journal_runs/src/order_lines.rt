@@ -9,7 +9,7 @@ use gate_io::{Failed, Sink};
 use gate_notes::Page;
 use replay_check::Order;
 
-/// Behind so many octets of a page the next line might not fit.
+/// After this many octets of a page the next line might not fit.
 const FULL: usize = 4096 - 32;
 
 // Writes who makes a call, where there are so many filers.

@@ -12,7 +12,7 @@ use replay_check::RenderEnd;
 /// what the beats came to.
 ///
 /// It takes no memory. A fault ends the run there, and what was given stays: the speech of all events that were read,
-/// and where a give of speech failed that of all but the last, and a front of that.
+/// and where a give of speech failed that of all but the last, and a prefix of that.
 pub fn render<I: Source, O: Sink, E: Sink>(
     seed: [u8; 32],
     input: &mut I,

@@ -30,7 +30,7 @@ fn refuse<E: Sink>(unread: Unread, notes: &mut E) -> Status
     }
 }
 
-// Gives the verdict on the journals of so many filers.
+// Gives the verdict on the journals of this many filers.
 fn give_verdict<O: Sink, E: Sink>(
     verdict: &Verdict,
     filers: u32,

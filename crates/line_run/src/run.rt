@@ -111,7 +111,7 @@ fn run_all<
 /// Runs all callers of a line at once: each filer over the link at its place, and the player over the other objects.
 /// Journal 0 is the player's, and journal 1 + i is that of filer i; each gets its head first, and no link is received
 /// from, nor a tick taken, for a journal that fails at it. Then all callers leave the ring, and what is left in it is
-/// told. It waits as long as the links and the clock do, and takes no memory.
+/// reported. It waits as long as the links and the clock do, and takes no memory.
 pub fn run_line<
     R: Threads + Wait + Sync,
     P: Link + Send,

@@ -23,7 +23,7 @@ pub enum Beat {
     Played,
     /// The speaker failed. Nothing was journaled, and the microphone was left as it was.
     SpeakerFault,
-    /// The journal failed behind the speaker. The microphone was left as it was.
+    /// The journal failed after the speaker had all of the beat. The microphone was left as it was.
     JournalFault,
     /// The microphone failed. What came of its piece is lost, and nothing was sent.
     MicFault,

@@ -33,7 +33,7 @@ impl Model for Player {
 }
 
 impl Player {
-    /// A player that has made no beat, and makes so many `ticks` at most. The seed is that of its voice; its packets
+    /// A player that has made no beat, and makes `ticks` of them at most. The seed is that of its voice; its packets
     /// are of the source `own`, the first with this sequence number and this timestamp in samples at 8 kHz.
     pub fn new(seed: [u8; 32], own: u32, sequence: u16, stamp: u32, ticks: u64) -> Player
         requires some { 1 ≤ ticks }

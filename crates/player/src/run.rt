@@ -30,7 +30,7 @@ pub enum PlayerEnd {
 impl Player {
     /// Makes a beat for each tick of the clock, until the clock ends, all beats are made or a fault comes, and then
     /// gives the journal its end mark, but for a journal that has failed. The journal's head is the caller's to give.
-    /// It waits as long as the clock does, and behind the last beat no more.
+    /// It waits as long as the clock does, and after the last beat no more.
     pub fn run<S: PlayerSide, I: Source, O: Sink, J: Sink, P: Link, C: TickClock>(
         &mut self,
         side: &mut S,
@@ -64,7 +64,7 @@ impl Player {
         self.run_to_end(side, clock, speaker, journal, microphone, reply)
     }
 
-    // The same, told beat by beat.
+    // The same, beat by beat.
     fn run_to_end<S: PlayerSide, I: Source, O: Sink, J: Sink, P: Link, C: TickClock>(
         &mut self,
         side: &mut S,

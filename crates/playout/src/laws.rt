@@ -19,7 +19,7 @@ pub fn replies_are_one()
     ensures { RepliesAreOne }
 {}
 
-/// The number that a late or an early frame is told is the least that is still to come and has its slot.
+/// The number that the reply to a late or an early frame has is the least that is still to come and has its slot.
 pub fn ahead_is_least()
     ensures { AheadIsLeast }
 {}

@@ -10,6 +10,6 @@ pub enum FileReply {
     Duplicate,
     /// The number's tick is past. `ahead` is the next number of its slot that is still to come.
     Late { ahead: u64 },
-    /// The number is behind the window. `ahead` is the number that its slot waits for.
+    /// The number is past the end of the window. `ahead` is the number that its slot waits for.
     Beyond { ahead: u64 },
 }

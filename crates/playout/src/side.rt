@@ -1,4 +1,4 @@
-// What filers and the player call, whatever stands behind it.
+// What filers and the player call, whatever implements it.
 ghost use Rattle.std.specs.Prelude.{◌≡◌, ◌≢◌, ◌<◌, ◌+◌, ◌^◌, ℕ, Option};
 ghost use Rattle.frame_codec.specs.declared.item.Item.{Item};
 ghost use Rattle.playout.specs.declared.call.Call.{Call};

@@ -51,7 +51,7 @@ pub fn file_event(head: &Head, from: u64, fields: &[u8]) -> Result<ScriptEvent, 
     }
 }
 
-/// Where the file is cut off that ends behind these fields.
+/// Where the file is cut off that ends after these fields.
 pub fn cut_behind(from: u64, fields: &[u8]) -> RecordFault
     requires { from + length fields.now < 2 ^ 64 }
     ensures { result ≡ RecordFault.Cut (from + length fields.now) }

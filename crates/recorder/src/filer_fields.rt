@@ -30,7 +30,7 @@ pub fn pair_of(from: u64, fields: &[u8]) -> Result<Asked2, RecordFault>
     })
 }
 
-/// The number and the frame at the front of these fields, or their first fault.
+/// The number and the frame that these fields begin with, or their first fault.
 pub fn filed_of(from: u64, fields: &[u8]) -> Result<(u64, Frame33), RecordFault>
     requires few { length fields.now ≤ 49 }
     requires place { from + 49 < 2 ^ 64 }
@@ -55,7 +55,7 @@ pub fn filed_of(from: u64, fields: &[u8]) -> Result<(u64, Frame33), RecordFault>
     }
 }
 
-/// The number that a Late or a Beyond of this number tells behind the frame, or its fault.
+/// The number that a Late or a Beyond of this number has after the frame, or its fault.
 pub fn ahead_of(late: bool, number: u64, from: u64, fields: &[u8]) -> Result<u64, RecordFault>
     requires few { length fields.now ≤ 49 }
     requires place { from + 49 < 2 ^ 64 }

@@ -32,7 +32,7 @@ impl Model for FilerReader {
 }
 
 impl FilerReader {
-    /// A reader at the front of its source.
+    /// A reader at the beginning of its source.
     pub fn new() -> FilerReader
         ensures { result ≡ fresh_filer }
     {

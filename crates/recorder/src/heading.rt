@@ -36,7 +36,7 @@ fn agrees_with(magic: &[u8; 8], octets: &[u8]) -> bool
     magic[..there] == octets[..there]
 }
 
-/// The head that has these octets behind its magic, or its first fault.
+/// The head that has these octets after its magic, or its first fault.
 pub fn head_of(magic: &[u8; 8], octets: &[u8]) -> Result<Head, RecordFault>
     requires { length octets.now ≤ 12 }
     ensures text { IfOk result (λ h. head_text magic.now h ≡ octets.now) }

@@ -35,7 +35,7 @@ impl Model for PlayReader {
 }
 
 impl PlayReader {
-    /// A reader at the front of its source.
+    /// A reader at the beginning of its source.
     pub fn new() -> PlayReader
         ensures { result ≡ fresh_play }
     {
@@ -101,7 +101,7 @@ impl PlayReader {
     }
 }
 
-// Whether Idle and Base may come behind an event.
+// Whether Idle and Base may come after an event.
 fn may_open(event: &PlayEvent) -> bool
     ensures { result ≡ may_open event.now }
 {

@@ -36,7 +36,7 @@ impl Model for PlayerJournal {
 
 impl PlayerJournal {
     /// Reads a whole journal, to its end mark. A refusal tells the input's first fault, and leaves the source
-    /// somewhere within its input. Memory is taken only behind the head, so that a fault of the head is always told.
+    /// somewhere within its input. Memory is taken only after the head, so that a fault of the head is always reported.
     pub fn read<I: Source>(alloc: Global, source: &mut I) -> Result<PlayerJournal, JournalRefusal>
         ensures text { IfOk result (λ j. Consumes (I.left source.old) (I.left source.new) (player_text j)) }
         ensures fits { IfOk result (λ j. PlayerRecordFits j) }

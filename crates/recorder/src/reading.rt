@@ -47,7 +47,7 @@ impl Reading {
         }
     }
 
-    /// Behind a head of so many octets, which its reader keeps.
+    /// After a head of this many octets, which its reader keeps.
     pub fn behind(size: u64) -> Reading
         requires { size ≤ 13 }
         ensures { result ≡ record fresh { at = size } }
@@ -121,7 +121,7 @@ impl Reading {
         }
     }
 
-    /// Goes on behind an event of so many octets.
+    /// Goes on after an event of this many octets.
     pub fn pass(&mut self, size: u64)
         requires size { size ≤ 4096 }
         requires more { self.old.count < event_limit }

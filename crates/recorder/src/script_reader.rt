@@ -33,7 +33,7 @@ impl Model for ScriptReader {
 }
 
 impl ScriptReader {
-    /// A reader at the front of its source.
+    /// A reader at the beginning of its source.
     pub fn new() -> ScriptReader
         ensures { result ≡ fresh }
     {

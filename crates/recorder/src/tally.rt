@@ -17,7 +17,7 @@ pub struct Tally {
     pub duplicate: u64,
     /// Frames whose tick was past.
     pub late: u64,
-    /// Frames behind the window.
+    /// Frames past the end of the window.
     pub beyond: u64,
     /// Datagrams refused by their octets, RTP and RTCP alike.
     pub refused: u64,

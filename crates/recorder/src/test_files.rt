@@ -71,7 +71,7 @@ pub fn octets_of(alloc: Global, text: &str) -> Result<Vec<u8>, OutOfMemory> {
     Ok(octets)
 }
 
-/// A head, so many events of this kind, which has no fields, and the end mark.
+/// A head, this many events of this kind, which has no fields, and the end mark.
 pub fn long_of(alloc: Global, head: &str, kind: u8, events: usize) -> Result<Vec<u8>, OutOfMemory> {
     let mut octets = octets_of(alloc, head)?;
     for _ in 0..events {
@@ -188,7 +188,7 @@ fn filer_end(
     }
 }
 
-/// How the reading of such a file ends: with so many events at the end mark, or by a fault. It comes in pieces of this
+/// How the reading of such a file ends: with this many events at the end mark, or by a fault. It comes in pieces of this
 /// size, and the take of this number fails.
 pub fn end_of_file(
     alloc: Global,
@@ -208,7 +208,7 @@ pub fn end_of_file(
     }
 }
 
-/// Whether each front of the file is cut off where it ends.
+/// Whether each prefix of the file is cut off where it ends.
 pub fn cuts_are_told(alloc: Global, kept: Kept, octets: &[u8]) -> Result<bool, OutOfMemory> {
     for n in 0..octets.len() {
         let cut = RecordEnd::Fault(RecordFault::Cut { at: n as u64 });

@@ -7,6 +7,6 @@ pub enum Made {
     /// All of it was given. The tallies are those of its run: what the player's ticks came to, and how the frames were
     /// answered.
     Done(PlayTally, Tally),
-    /// The sink failed, and has a front of the script.
+    /// The sink failed, and has a prefix of the script.
     WriteFault,
 }

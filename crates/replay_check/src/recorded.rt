@@ -128,7 +128,7 @@ impl<'a> Recorded<'a> {
         }
     }
 
-    /// A caller's call at a place, counted from 0, or none behind its last.
+    /// A caller's call at a place, counted from 0, or none after its last.
     pub fn call(&self, who: usize, place: usize) -> Option<Call>
         requires { who ≤ length self.now.filers }
         ensures { result ≡ first_of (drop place (list_of self.now who)) }

@@ -81,7 +81,7 @@ fn play_event<O: Sink>(
     }
 }
 
-// Plays the events behind the head.
+// Plays the events after the head.
 fn play_events<I: Source, O: Sink>(
     head: &Head,
     seed: [u8; 32],
@@ -118,7 +118,7 @@ fn play_events<I: Source, O: Sink>(
 /// samples of 16 bits at 8 kHz, the low octet first. An Idle is silent, and a Base plays nothing.
 ///
 /// It takes no memory. A fault ends it there, and what was given stays: the speech of all events that were read, and
-/// where a give failed that of all but the last, and a front of that.
+/// where a give failed that of all but the last, and a prefix of that.
 pub fn render<I: Source, O: Sink>(seed: [u8; 32], journal: &mut I, pcm: &mut O) -> RenderEnd
     ensures renders { Renders seed result (I.left journal.old) (O.given pcm.old) (O.given pcm.new) }
     ensures stops { Stops seed result (I.left journal.old) (I.left journal.new) (O.given pcm.old) (O.given pcm.new) }

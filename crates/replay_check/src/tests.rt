@@ -37,7 +37,7 @@ fn put_word(octets: &mut Vec<u8>, word: &[u8]) -> Result<(), AllocError> {
 }
 
 /// Puts the octets that words write: hexadecimal digits, the magic of a journal, or a frame, all of whose octets have the
-/// two digits behind the `x`.
+/// two digits after the `x`.
 pub fn put_words(octets: &mut Vec<u8>, text: &str) -> Result<(), AllocError> {
     for word in text.split_whitespace() {
         put_word(octets, word.as_bytes())?;

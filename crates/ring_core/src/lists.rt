@@ -47,7 +47,7 @@ impl CallList {
         }
     }
 
-    /// The calls with one more behind them.
+    /// The calls with one more after them.
     pub(crate) fn with(mut self, call: Call) -> Result<CallList, OutOfMemory>
         ensures { IfOk result (λ l. l ≡ self ++ call ∷ []) }
     {
@@ -107,7 +107,7 @@ impl PairList {
         Ok(self)
     }
 
-    /// The pairs with the other's behind them.
+    /// The pairs with the other's after them.
     pub(crate) fn joined(mut self, mut other: PairList) -> Result<PairList, OutOfMemory>
         ensures { IfOk result (λ l. l ≡ self ++ other) }
     {
@@ -141,7 +141,7 @@ impl Model for Gathered {
 }
 
 impl Gathered {
-    /// No list, of so many callers.
+    /// No list, of this many callers.
     pub(crate) fn new(alloc: Global, callers: usize) -> Result<Gathered, OutOfMemory>
         ensures { IfOk result (λ l. l ≡ replicate callers None) }
     {
@@ -198,7 +198,7 @@ impl Model for Rights {
 }
 
 impl Rights {
-    /// All rights or none, of so many callers.
+    /// All rights or none, of this many callers.
     pub(crate) fn new(alloc: Global, callers: usize, all: bool) -> Result<Rights, OutOfMemory>
         ensures { IfOk result (λ l. l ≡ replicate callers all) }
     {

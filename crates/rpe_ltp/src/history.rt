@@ -45,7 +45,7 @@ impl LagHistory {
         &self.values
     }
 
-    /// Takes the 40 values of a sub-frame behind the others, and drops the 40 oldest.
+    /// Takes the 40 values of a sub-frame after the others, and drops the 40 oldest.
     #[inline]
     pub fn push(&mut self, values: &[i16; 40])
         ensures { self.new ≡ drop 40 self.old ++ values.now }

@@ -13,7 +13,7 @@ pub enum RtcpFault {
     /// The first packet is neither a sender report nor a receiver report.
     First,
     /// Padding in a packet that is not the last, or a count of padding that is 0, no multiple of 4, or more
-    /// than the octets behind the packet's first four.
+    /// than the octets after the packet's first four.
     Padding { at: u32 },
     /// Without its padding the packet is too short for what it counts.
     Body { at: u32 },

@@ -4,7 +4,7 @@ ghost use Rattle.rtcp_stats.specs.Compound.{IsJudged};
 ghost use Rattle.rtcp_stats.specs.Writing.{IsReadBack};
 
 /// A law, with nothing to run: a datagram of fewer than 2048 octets has no fault exactly where it is one or
-/// more packets without a fault, one behind the other to its end; and its fault is that of the first packet
+/// more packets without a fault, one after the other to its end; and its fault is that of the first packet
 /// that has one.
 pub fn first_faults()
     ensures { (d : List ℕ) → IsJudged d }

@@ -67,7 +67,7 @@ fn head_of(datagram: &[u8]) -> RtpHead
     }
 }
 
-/// Where the payload begins: behind the contributing sources, and behind the extension where there is one.
+/// Where the payload begins: after the contributing sources, and after the extension if there is one.
 fn header_end(datagram: &[u8]) -> Result<usize, Misfit>
     requires some { 12 ≤ length datagram.now }
     requires few { length datagram.now < 2048 }

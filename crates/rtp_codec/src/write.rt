@@ -19,7 +19,7 @@ fn head_octets(head: &RtpHead) -> [u8; 12]
     octets
 }
 
-/// Writes a packet to the front of the piece, and answers its length: the fixed header of version 2, with no
+/// Writes a packet to the beginning of the piece, and answers its length: the fixed header of version 2, with no
 /// padding, extension or contributing sources (RFC 3550 section 5.1), and then the payload.
 pub fn write_rtp(head: &RtpHead, payload: &[u8], into: &mut [u8]) -> usize
     requires payload_type { head.now.payload_type < 128 }

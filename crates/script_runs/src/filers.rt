@@ -17,7 +17,7 @@ const OWN: u32 = 0;
 
 const REPORT: u32 = u32::MAX;
 
-/// So many new filers, one for each caller that files.
+/// New filers, one for each caller that files.
 pub fn new_filers(alloc: Global, count: u8, delay: u16) -> Result<Vec<Filer>, OutOfMemory>
     requires { delay ≤ 1023 }
     ensures { IfOk result (λ filers. filers.items ≡ replicate count (new_filer delay)) }

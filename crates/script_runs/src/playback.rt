@@ -61,7 +61,7 @@ impl Playback {
         }
     }
 
-    /// Gives what stands behind all events.
+    /// Gives what comes after all events.
     pub fn end<O: Sink>(&self, output: &mut O) -> Result<(), Failed>
         ensures given { Gives (O.given output.old) (O.given output.new) result (end_text self.now) }
         ensures cause { HasCause (O.faults output.old) (O.faults output.new) result }

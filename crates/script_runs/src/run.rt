@@ -51,7 +51,7 @@ impl Run {
         }
     }
 
-    /// Makes the calls of an event, and answers the run behind it. The output gets what the playback has of the
+    /// Makes the calls of an event, and answers the run after it. The output gets what the playback has of the
     /// calls, and the notes the event's lines.
     pub fn apply<O: Sink, E: Sink>(
         self,

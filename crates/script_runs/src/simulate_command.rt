@@ -88,9 +88,9 @@ fn open_run(alloc: Global, head: &Head) -> Result<Run, OutOfMemory>
 /// samples of 16 bits at 8 kHz, the low octet first. The notes get the datagrams that were refused, the replies
 /// that are not Accepted, and a summary.
 ///
-/// Memory is wanted behind the script's head alone, before anything is given. A fault ends the run there,
+/// Memory is taken after the script's head alone, before anything is given. A fault ends the run there,
 /// and what was given stays: what all events that were read give, and where a give failed what all but the
-/// last give, and a front of what that one gives.
+/// last give, and a prefix of what that one gives.
 pub fn simulate<I: Source, O: Sink, E: Sink>(
     alloc: Global,
     voice: Option<[u8; 32]>,

@@ -85,7 +85,7 @@ fn line_for(
 /// Does the command `serve` of the words over the links, one for each address that they listen on, and the journals, the
 /// player's first. All callers run at once, each on a thread of its own, to their ends; it waits as long as they do.
 ///
-/// `Usage` comes exactly where the words are no line of serve or the lists have other lengths than they say, and then, as with
+/// `Usage` comes exactly where the arguments are no valid command line of serve or the lists have other lengths than they say, and then, as with
 /// `OutOfMemory`, nothing is taken, and nothing given but the line `usage` to the notes.
 pub fn run_serve<
     R: Threads + Wait + Sync,

@@ -1,4 +1,4 @@
-// What the ends of a line's callers come to: the status of `serve`, and its notes.
+// What the ends of a line's callers result in: the status of `serve`, and its notes.
 ghost use Rattle.std.specs.Prelude.{◌≡◌, ◌≤◌, None};
 ghost use Rattle.std.specs.Io.KnownBytes.{Appends};
 ghost use Rattle.gate_base.specs.Faults.{HasCause, Rose};

@@ -1,4 +1,4 @@
-//! The lock-free playout ring: filers file and a player ticks at once, with one legal history behind all their calls.
+//! The lock-free playout ring: filers file and a player ticks at once, with one legal history that explains all their calls.
 #![tactic(auto)]
 
 mod blank;

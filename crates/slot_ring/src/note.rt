@@ -1,4 +1,4 @@
-// What one caller knows, told to another.
+// What one caller knows, handed to another.
 ghost use Rattle.std.specs.Prelude.{◌≡◌, ◌+◌};
 ghost use Rattle.ring_core.specs.Steps.{merged};
 

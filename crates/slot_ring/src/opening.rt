@@ -12,7 +12,7 @@ use gate_base::OutOfMemory;
 use std::alloc::Global;
 use step_table::StepTable;
 
-// The words of so many free slots.
+// The words of this many free slots.
 fn push_slots(words: &mut Vec<u64>, count: u32) -> Result<(), OutOfMemory>
     requires { count ≤ 1024 }
     ensures { OnOk result (words.new.items ≡ words.old.items ++ map pack_slot (slots_from 0 count)) }
@@ -25,7 +25,7 @@ fn push_slots(words: &mut Vec<u64>, count: u32) -> Result<(), OutOfMemory>
     Ok(())
 }
 
-// The words of so many fresh berths, with the cells from this one on.
+// The words of this many fresh berths, with the cells from this one on.
 fn push_berths(words: &mut Vec<u64>, first: u32, count: u32) -> Result<(), OutOfMemory>
     requires { (first ≤ 1024) × (count ≤ 65) }
     ensures { OnOk result (words.new.items ≡ words.old.items ++ map pack_berth (berths_from first count)) }

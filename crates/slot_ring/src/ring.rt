@@ -7,7 +7,7 @@ use frame_codec::Frame33;
 use std::marker::Model;
 use step_table::StepTable;
 
-/// A ring of 2^g slots for so many filers and a player. Contracts see which ring it is, and its shape. Its calls take `&self`, and any
+/// A ring of 2^g slots for a number of filers and a player. Contracts see which ring it is, and its shape. Its calls take `&self`, and any
 /// number of threads may make them at once; none waits, and none but `new` takes memory.
 #[derive(Drop)]
 pub struct SlotRing {

@@ -19,7 +19,7 @@ use gate_io::{Failed, Sink, Source, fill};
 use gate_notes::{Status, Stop, give_frames, note_fault};
 use recorder::{RecordEnd, RecordFault};
 
-/// So many frames a run takes at most: 93 hours of speech.
+/// The most frames that a run takes: 93 hours of speech.
 const FRAME_LIMIT: u32 = 16777216;
 
 // Takes the next frame behind so many, or none at the end of the input.

@@ -16,7 +16,7 @@ use gate_notes::{Status, Stop, give_frames, note_fault};
 use player::take_piece;
 use recorder::RecordFault;
 
-/// So many pieces a run takes at most: 93 hours of speech.
+/// The most pieces that a run takes: 93 hours of speech.
 const PIECE_LIMIT: u32 = 16777216;
 
 // Codes the next piece, and gives its frame.

@@ -47,7 +47,7 @@ fn loud() -> Option<Frame33> {
     Some(pack(&fields([63, 10, 4, 0], [0, 1, 2, 3])?))
 }
 
-/// Levels and grid positions at the erasures of a run behind it, until silence.
+/// Levels and grid positions at the erasures of a run after it, until silence.
 const FADE: [([u8; 4], [u8; 4]); 16] = [
     ([63, 10, 4, 0], [0, 1, 2, 3]),
     ([59, 6, 0, 0], [0, 0, 0, 1]),
