@@ -1,4 +1,4 @@
--- What a decoder keeps between frames, and how it stands behind a whole list of them.
+-- What a decoder keeps between frames, and how it stands after a whole list of them.
 use Rattle.std.specs.Prelude.{◌≡◌, ℕ, ◌+◌, ◌*◌, ◌<◌, ℤ, pos, List, ◌++◌, length, replicate}
 use Rattle.fixed_arith.specs.Signal.{at, past}
 use Rattle.frame_codec.specs.Frame.{Fields}
@@ -16,7 +16,7 @@ pub record Kept : Type 0 where
   pub filter : List ℤ
   pub emphasis : ℤ
 
--- Behind the frames, values of the long-term part went through the filter from rest, and were de-emphasised; the last of each are kept.
+-- After the frames, values of the long-term part went through the filter from rest, and were de-emphasised; the last of each are kept.
 pub record Carries (frames : List Fields) (samples : List ℤ) (kept : Kept) : Type 0 where
   pub residual : List ℤ
   pub inputs : List (List ℤ × ℤ)
@@ -31,7 +31,7 @@ pub record Carries (frames : List Fields) (samples : List ℤ) (kept : Kept) : T
   pub count : length samples ≡ 160 * length frames
   pub output : (t : ℕ) → t < 160 * length frames → at samples t ≡ output_of (emphasis_after (pos 0) filtered (t + 1))
 
--- A decoder stands behind a list of frames: the samples that it gave are their decoded speech, and it keeps what the next frame needs.
+-- A decoder stands after a list of frames: the samples that it gave are their decoded speech, and it keeps what the next frame needs.
 pub record Decodes (frames : List Fields) (samples : List ℤ) (kept : Kept) : Type 0 where
   pub speech : IsSpeech frames samples
   pub carried : Carries frames samples kept

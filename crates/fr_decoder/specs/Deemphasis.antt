@@ -8,7 +8,7 @@ use Rattle.fixed_arith.specs.Signal.{at}
 unfoldable pub emphasis_next : ℤ → ℤ → ℤ
 emphasis_next before x = add_words x (mult_r_words before (pos 28180))
 
--- the de-emphasised value behind the first n of the values that the filter gave, from the one before them
+-- the de-emphasised value after the first n of the values that the filter gave, from the one before them
 unfoldable pub emphasis_after : ℤ → List ℤ → ℕ → ℤ
 emphasis_after before xs zero = before
 emphasis_after before xs (suc n) = emphasis_next (emphasis_after before xs n) (at xs n)

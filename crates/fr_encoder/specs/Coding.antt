@@ -31,13 +31,13 @@ pub record Held : Type 0 where
   pub front : Kept
   pub long_term : Memory
 
--- Behind the samples stand the front, which gave the residual, and the sub-frames that were made of it.
+-- After the samples stand the front, which gave the residual, and the sub-frames that were made of it.
 pub record Holds (samples : List ℤ) (frames : List Fields) (held : Held) : Type 0 where
   pub d : List ℤ
   pub front : Fronts samples (ratio_codes frames) d held.front
   pub excites : Excites d (sub_frames frames) held.long_term
 
--- An encoder stands behind a list of pieces, whose samples these are: it gave their frames, and it keeps what the next piece needs.
+-- An encoder stands after a list of pieces, whose samples these are: it gave their frames, and it keeps what the next piece needs.
 pub record Encodes (samples : List ℤ) (frames : List Fields) (held : Held) : Type 0 where
   pub speech : IsCoded samples frames
   pub carried : Holds samples frames held

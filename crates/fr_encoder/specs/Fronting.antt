@@ -1,4 +1,4 @@
--- What the front keeps between pieces, and how it stands behind a whole list of them.
+-- What the front keeps between pieces, and how it stands after a whole list of them.
 use Rattle.std.specs.Prelude.{◌≡◌, ℕ, ◌+◌, ◌*◌, ◌/◌, ◌%◌, ◌<◌, ℤ, pos, List, ◌++◌, length, replicate}
 use Rattle.fixed_arith.specs.Signal.{at, past}
 use Rattle.lar_filter.specs.Autocorrelation.{onward}
@@ -14,7 +14,7 @@ pub record Kept : Type 0 where
   pub ratios : List ℤ
   pub filter : List ℤ
 
--- Behind the samples, each piece was preprocessed, coded and scaled, and went through the filter from rest; the last of each are kept.
+-- After the samples, each piece was preprocessed, coded and scaled, and went through the filter from rest; the last of each are kept.
 pub record Carries (samples : List ℤ) (codes : List (List ℕ)) (residual : List ℤ) (kept : Kept) : Type 0 where
   pub s : List ℤ
   pub values : List ℤ
@@ -31,7 +31,7 @@ pub record Carries (samples : List ℤ) (codes : List (List ℕ)) (residual : Li
   pub ratios : (i : ℕ) → i < 8 → at kept.ratios i ≡ past (ratio codes i) (length codes) 1
   pub count : length residual ≡ 160 * length codes
 
--- The front stands behind a list of pieces, whose samples these are: it gave their codes and their residual, and it keeps what the next piece needs.
+-- The front stands after a list of pieces, whose samples these are: it gave their codes and their residual, and it keeps what the next piece needs.
 pub record Fronts (samples : List ℤ) (codes : List (List ℕ)) (residual : List ℤ) (kept : Kept) : Type 0 where
   pub short_term : IsShortTerm samples codes residual
   pub carried : Carries samples codes residual kept

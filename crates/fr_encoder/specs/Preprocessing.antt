@@ -35,7 +35,7 @@ at_rest = record { so = pos 0; z = pos 0; mp = pos 0 }
 unfoldable pub next_offset : Offset → ℤ → Offset
 next_offset o x = record { so = offset_word x; z = kept_long o.z (offset_word x -ℤ o.so); mp = middle_long (kept_long o.z (offset_word x -ℤ o.so)) }
 
--- the values behind the first n of the samples
+-- the values after the first n of the samples
 unfoldable pub offset_after : Offset → List ℤ → ℕ → Offset
 offset_after before xs zero = before
 offset_after before xs (suc n) = next_offset (offset_after before xs n) (at xs n)

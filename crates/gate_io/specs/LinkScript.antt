@@ -7,7 +7,7 @@ use Rattle.gate_io.specs.declared.link_entry.LinkEntry.{LinkEntry}
 use Rattle.gate_io.specs.declared.link_entry.LinkEntry.TheVariants as entry
 use Rattle.gate_io.specs.Links.{LinkLog}
 
--- the entries that were answered, those that are still to come, and whether it has answered behind the last one; the
+-- the entries that were answered, those that are still to come, and whether it has answered after the last one; the
 -- datagrams that were sent, how many there is room for, which sends fail, and how many there were; the faults
 pub record LinkState : Type 0 where
   pub passed : List LinkEntry
@@ -48,7 +48,7 @@ opened script fails room = record { passed = []; left = script; ended = false; s
 abbrev pub counted : ℕ → ℕ
 counted n = min (n + 1) (2 ^ 64 - 1)
 
--- how an entry is answered, and what stands then at the front of the piece
+-- how an entry is answered, and what stands then at the beginning of the piece
 abbrev pub answer_to : LinkEntry → Result Received Failed
 answer_to (entry.Datagram octets at) = Ok (received.Datagram (cut_length octets) at)
 answer_to entry.Idle = Ok received.Idle
@@ -69,7 +69,7 @@ faults_after n (entry.Datagram octets at) = n
 faults_after n entry.Idle = n
 faults_after n entry.Fail = counted n
 
--- the same where these entries are left: the first is answered, and behind the last the link has ended
+-- the same where these entries are left: the first is answered, and after the last the link has ended
 abbrev pub first_answer : List LinkEntry → Result Received Failed
 first_answer [] = Ok received.Ended
 first_answer (e ∷ es) = answer_to e

@@ -39,7 +39,7 @@ abbrev pub Sends : {T E : Type 0} → Option LinkLog → Option LinkLog → Resu
 Sends old new (Ok x) octets = GoesTo old new (λ a b. b ≡ with_sent a octets)
 Sends old new (Err e) octets = GoesTo old new (λ a b. (b ≡ a) ⊎ (b ≡ with_sent a octets))
 
--- a datagram has at most so many octets
+-- a datagram has at most this many octets
 abbrev pub IsWithin : ℕ → Received → Type 0
 IsWithin most (received.Datagram len at) = len ≤ most
 IsWithin most received.Idle = Unit {0}

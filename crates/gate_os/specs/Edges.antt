@@ -49,11 +49,11 @@ count_after result n = if is_ok result then n else min (n + 1) (2 ^ 64 - 1)
 abbrev pub millis : ℕ → ℕ
 millis n = min n (2 ^ 64 - 1) * 1_000_000
 
--- the time of so many ticks of 20 ms
+-- the time of this many ticks of 20 ms
 abbrev pub ticks_time : ℕ → ℕ
 ticks_time n = millis (n * 20)
 
--- the life of a link that is to be there a second longer than so many ticks
+-- the life of a link that is to be there a second longer than this many ticks
 abbrev pub lasting : ℕ → ℕ
 lasting n = millis (min (n * 20) (2 ^ 64 - 1) + 1000)
 

@@ -50,7 +50,7 @@ pub record Memory : Type 0 where
   pub history : List ℤ
   pub lag : ℕ
 
--- Behind a list of sub-frames the last 120 values are kept, and the last lag.
+-- After a list of sub-frames the last 120 values are kept, and the last lag.
 pub record Remembers (subs : List SubParams) (values : List ℤ) (kept : Memory) : Type 0 where
   pub solved : IsLongTerm subs values
   pub size : length kept.history ≡ 120

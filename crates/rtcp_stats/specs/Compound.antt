@@ -33,7 +33,7 @@ is_cut d at = nat_lt (length d) (at + 4) || nat_lt (length d) (packet_end d at)
 abbrev pub is_report : List ℕ → ℕ → Bool
 is_report d at = (kind d at == 200) || (kind d at == 201)
 
--- the packet is not the last, or the padding is 0, no multiple of 4, or more than what is behind the first four octets
+-- the packet is not the last, or the padding is 0, no multiple of 4, or more than what is after the first four octets
 abbrev pub has_bad_padding : List ℕ → ℕ → Bool
 has_bad_padding d at =
     has_padding d at
@@ -71,12 +71,12 @@ fault_from (suc n) d at = first_of (packet_fault d at) (if packet_end d at == le
 abbrev pub rtcp_fault : List ℕ → Option RtcpFault
 rtcp_fault d = if nat_le 2048 (length d) then Some Oversize else fault_from (length d + 1) d 0
 
--- packets without a fault that begin at these places, one behind the other, from a place to another
+-- packets without a fault that begin at these places, one after the other, from a place to another
 abbrev pub AreFine : List ℕ → ℕ → List ℕ → ℕ → Type 0
 AreFine d at [] end = at ≡ end
 AreFine d at (p ∷ ps) end = (p ≡ at) × (packet_fault d at ≡ None) × AreFine d (packet_end d at) ps end
 
--- fine packets, and behind them one with this fault
+-- fine packets, and after them one with this fault
 abbrev pub IsFirstFault : List ℕ → RtcpFault → Type 0
 IsFirstFault d f = (ps : List ℕ) × (at : ℕ) × AreFine d 0 ps at × (packet_fault d at ≡ Some f)
 

@@ -32,7 +32,7 @@ block_at d at = record {
   dlsr = number_at 4 d (at + 20);
 }
 
--- behind what a sender says, and behind the receiver's own source
+-- after what a sender says, and after the receiver's own source
 abbrev pub blocks_start : List ℕ → ℕ
 blocks_start d = if kind d 0 == 200 then 28 else 8
 

@@ -26,7 +26,7 @@ is_bad (Some bad) seq = bad == seq
 abbrev pub with_received : Sequence → Sequence
 with_received s = record s { received = (s.received + 1) % 2 ^ 32 }
 
--- a valid packet in order, perhaps behind a wrap
+-- a valid packet in order, perhaps after a wrap
 abbrev pub in_order : Sequence → ℕ → Sequence
 in_order s seq = with_received (record s { cycles = (if nat_lt seq s.max_seq then (s.cycles + 65536) % 2 ^ 32 else s.cycles); max_seq = seq })
 

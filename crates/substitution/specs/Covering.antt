@@ -43,6 +43,6 @@ covered (Some g) k word = if nat_lt 1 k then (if are_silent k g.sub then silence
 abbrev pub random_word : List ℕ → ℕ → ℕ
 random_word seed place = word_at 4 (key_of seed) 0 (place % 2 ^ 68)
 
--- the generator of the seed where so many words were used
+-- the generator of the seed where this many words were used
 abbrev pub generator_at : List ℕ → ℕ → ChaCha
 generator_at seed place = record { key = key_of seed; stream = 0; word_pos = place % 2 ^ 68 }

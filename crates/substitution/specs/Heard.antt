@@ -46,7 +46,7 @@ pub record Sounding : Type 0 where
   pub masker : Kept
   pub decoder : decoding.Kept
 
--- A voice stands behind a list of items: the samples that it gave are what is heard of them, and it keeps what the next item needs.
+-- A voice stands after a list of items: the samples that it gave are what is heard of them, and it keeps what the next item needs.
 pub record Voices (seed : List ℕ) (items : List Item) (samples : List ℤ) (voice : Sounding) : Type 0 where
   pub heard : IsHeard seed items samples
   pub masks : Masks seed items heard.heard voice.masker

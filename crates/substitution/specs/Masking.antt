@@ -73,7 +73,7 @@ pub record Kept : Type 0 where
   pub erasures : ℕ
   pub words : ChaCha
 
--- A masker stands behind a list of items: what it gave is their masking, and it keeps what the next item needs.
+-- A masker stands after a list of items: what it gave is their masking, and it keeps what the next item needs.
 pub record Masks (seed : List ℕ) (items : List Item) (heard : List Heard) (kept : Kept) : Type 0 where
   pub masking : IsMasking seed items heard
   pub last : kept.last ≡ last_frame (reverse masking.slots)

@@ -24,7 +24,7 @@ extended u ts =
     let ahead = int_rem_euclid (((pos ts -ℤ pos u.base) -ℤ u.reference) +ℤ pos (2 ^ 31)) (pos (2 ^ 32)) in
     (u.reference +ℤ ahead) -ℤ pos (2 ^ 31)
 
--- 160 samples are a frame, counted from the delay behind 2 ^ 32; a quotient is rounded down
+-- 160 samples are a frame, counted from the delay after 2 ^ 32; a quotient is rounded down
 abbrev pub first_number : Unwrap → ℕ → ℤ
 first_number u ts = pos (2 ^ 32 + u.delay) +ℤ int_div_euclid (extended u ts) (pos 160)
 
