@@ -15,7 +15,9 @@ ghost use Rattle.replay_check.specs.Render.{Completes, Played, Renders, Stops, S
 use byteorder::{ByteOrder, LittleEndian};
 use frame_codec::Item;
 use gate_io::{Failed, Sink, Source};
-use recorder::{Head, PlayEvent, PlayReader, PlayTally, RecordEnd, RecordFault};
+use recorder::{
+    Head, PlayEvent, PlayReader, PlayTally, RecordEnd, RecordFault, player_journals_have_no_fault,
+};
 use substitution::Voice;
 
 /// How a journal was played.
@@ -128,6 +130,8 @@ pub fn render<I: Source, O: Sink>(seed: [u8; 32], journal: &mut I, pcm: &mut O) 
     ensures complete { Completes result (I.left journal.old) }
     ensures kin { O.kin pcm.old pcm.new }
 {
+    // A journal that is whole is never refused.
+    player_journals_have_no_fault();
     let mut reader = PlayReader::new();
     match reader.head(journal) {
         Ok(head) => play_events(&head, seed, &mut reader, journal, pcm),

@@ -11,8 +11,7 @@ use Rattle.recorder.specs.declared.events.ScriptEvent.{ScriptEvent}
 use Rattle.recorder.specs.declared.fault.RecordFault.{RecordFault}
 use Rattle.recorder.specs.Heads.{head_fault, Heading, IsHeading, head_text, script_magic}
 use Rattle.recorder.specs.Files.{end_mark}
-use Rattle.recorder.specs.Script.{IsScript, event_text}
-use Rattle.recorder.proofs.Unique.{not_both}
+use Rattle.recorder.specs.Script.{IsScript, ScriptsHaveNoFault, event_text}
 use Rattle.script_runs.specs.Calls.{Turn, history_of, opening_callers}
 use Rattle.script_runs.specs.declared.playback.Playback.{Playback}
 use Rattle.script_runs.specs.declared.run.Run.{Run}
@@ -262,11 +261,11 @@ module _ (voice : Option (List ℕ)) (x : Exchange) (h : Heading) (mid : Option 
       stops-behind OutOfMemory left never = absurd never
 
 -- a script is not refused
-pub not_refused : (voice : Option (List ℕ)) (x : Exchange) (octets : List ℕ) (h : Heading) (events : List ScriptEvent) → Ends voice Input x → x.input ≡ Some octets → IsScript octets h events → ⊥
-not_refused voice x octets h events (f, inl (fault, kept, noted)) told script =
+pub not_refused : ScriptsHaveNoFault → (voice : Option (List ℕ)) (x : Exchange) (octets : List ℕ) (h : Heading) (events : List ScriptEvent) → Ends voice Input x → x.input ≡ Some octets → IsScript octets h events → ⊥
+not_refused not_both voice x octets h events (f, inl (fault, kept, noted)) told script =
     let P : Option (List ℕ) → Type 0 = λ o. IfSome o (λ octets. head_fault script_magic (take 12 octets) ≡ Some f) in
     not_both octets h events f script (inl (subst P told fault))
-not_refused voice x octets h events (f, inr (h', before, turns, played, run, is, text, given, noted)) told script =
+not_refused not_both voice x octets h events (f, inr (h', before, turns, played, run, is, text, given, noted)) told script =
     let P : Option (List ℕ) → Type 0 = λ o. IfSome o (Begins h' before (λ rest. fault_after h' before rest ≡ Some f)) in
     let begun = subst P told text in
     not_both octets h events f script (inr (h', before, record { heading = run.head; fits = run.fit; few = run.few; rest = begun.0; text = begun.1; fault = begun.2 }))

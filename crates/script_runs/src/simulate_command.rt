@@ -17,7 +17,7 @@ use gate_base::OutOfMemory;
 use gate_io::{Failed, Sink, Source};
 use gate_notes::{Status, Stop, give_summary, note_fault};
 use playout::MapLine;
-use recorder::{Head, RecordEnd, ScriptReader};
+use recorder::{Head, RecordEnd, ScriptReader, scripts_have_no_fault};
 use std::alloc::Global;
 
 // Runs the events of a script to its end mark, its first fault or a fault of the outside.
@@ -122,6 +122,8 @@ pub fn simulate<I: Source, O: Sink, E: Sink>(
     ensures complete { Completes result (I.left input.old) (Rose (I.faults input.old) (I.faults input.new) ⊎ Rose (O.faults output.old) (O.faults output.new) ⊎ Rose (E.faults notes.old) (E.faults notes.new)) }
     ensures kin { O.kin output.old output.new × E.kin notes.old notes.new }
 {
+    // A script is never refused.
+    scripts_have_no_fault();
     let mut reader = ScriptReader::new();
     let head = match reader.head(input) {
         Ok(head) => head,

@@ -1,6 +1,5 @@
 use Rattle.std.proofs.Common.{◌≡◌, inr, inl}
 use Rattle.std.proofs.KnownBytes.{Keeps-refl}
-use Rattle.recorder.proofs.PlayerUnique.{not_both}
 use Rattle.replay_check.specs.Render.{Renders}
 use Rattle.replay_check.specs.declared.rendering.RenderEnd.TheVariants.{Refused}
 use Rattle.replay_check.proofs.Rendered.{with-head, completes, stops-behind}
@@ -18,7 +17,7 @@ returns-in-Ok-clause-renders g c =
 
 pub returns-in-Ok-clause-complete : goal.returns-in-Ok-clause-complete
 returns-in-Ok-clause-complete g c =
-    completes c.args.seed c.play_events.result (g.I.Source.left c.args.journal.now) (g.O.Sink.given c.args.pcm.now) (g.O.Sink.given c.play_events.new.pcm) not_both (returns-in-Ok-clause-renders g c)
+    completes c.args.seed c.play_events.result (g.I.Source.left c.args.journal.now) (g.O.Sink.given c.args.pcm.now) (g.O.Sink.given c.play_events.new.pcm) c.player_journals_have_no_fault.ensures (returns-in-Ok-clause-renders g c)
 
 pub returns-in-Err-Fault-clause-complete : goal.returns-in-Err-Fault-clause-complete
 returns-in-Err-Fault-clause-complete g c = λ octets j told whole f is.
@@ -26,7 +25,7 @@ returns-in-Err-Fault-clause-complete g c = λ octets j told whole f is.
     let given = g.O.Sink.given c.args.pcm.now in
     let refused : Renders c.args.seed (Refused c.in-Err-Fault.fault) (g.I.Source.left c.args.journal.now) given given = inl (all.fault c.new-reader.ensures, Keeps-refl given) in
     let same : Refused c.in-Err-Fault.fault ≡ Refused f = rw c.in-Err-Fault.fault-is at is in
-    completes c.args.seed (Refused c.in-Err-Fault.fault) (g.I.Source.left c.args.journal.now) given given not_both refused octets j told whole f same
+    completes c.args.seed (Refused c.in-Err-Fault.fault) (g.I.Source.left c.args.journal.now) given given c.player_journals_have_no_fault.ensures refused octets j told whole f same
 
 pub returns-in-Ok-clause-stops : goal.returns-in-Ok-clause-stops
 returns-in-Ok-clause-stops g c =

@@ -59,12 +59,12 @@ returns-in-Err-WriteFault-clause-ends g c =
 pub returns-in-Err-Fault-clause-complete : goal.returns-in-Err-Fault-clause-complete
 returns-in-Err-Fault-clause-complete g c = λ octets h events told script fine.
     let x : Exchange = record { input = g.I.Source.left c.args.input.now; output = g.O.Sink.given c.args.output.now; output_now = g.O.Sink.given c.args.output.now; notes = g.E.Sink.given c.args.notes.now; notes_now = g.E.Sink.given c.note_fault.new.notes; noted = g.E.Sink.faults c.args.notes.now; noted_now = g.E.Sink.faults c.note_fault.new.notes } in
-    absurd (not_refused c.args.voice x octets h events (returns-in-Err-Fault-clause-ends g c) told script)
+    absurd (not_refused c.scripts_have_no_fault.ensures c.args.voice x octets h events (returns-in-Err-Fault-clause-ends g c) told script)
 
 pub returns-in-Err-Refused-clause-complete : goal.returns-in-Err-Refused-clause-complete
 returns-in-Err-Refused-clause-complete g c = λ octets h events told script fine.
     let x : Exchange = record { input = g.I.Source.left c.args.input.now; output = g.O.Sink.given c.args.output.now; output_now = g.O.Sink.given c.run_events.new.output; notes = g.E.Sink.given c.args.notes.now; notes_now = g.E.Sink.given c.note_fault-in-Err-Refused.new.notes; noted = g.E.Sink.faults c.args.notes.now; noted_now = g.E.Sink.faults c.note_fault-in-Err-Refused.new.notes } in
-    absurd (not_refused c.args.voice x octets h events (returns-in-Err-Refused-clause-ends g c) told script)
+    absurd (not_refused c.scripts_have_no_fault.ensures c.args.voice x octets h events (returns-in-Err-Refused-clause-ends g c) told script)
 
 pub returns-in-Err-Fault-clause-stops : goal.returns-in-Err-Fault-clause-stops
 returns-in-Err-Fault-clause-stops g c =
