@@ -4,7 +4,10 @@ use Rattle.std.specs.Io.KnownBytes.{Appends}
 use Rattle.gate_base.specs.Faults.{Rose}
 use Rattle.gate_io.specs.Flow.{AppendsPart}
 use Rattle.gate_io.specs.Links.{LinkLog, GoesTo}
+use Rattle.gate_io.specs.declared.link.Link as link
+use Rattle.gate_io.specs.declared.sink.Sink as sink
 use Rattle.playout.specs.declared.call.Call.{Call}
+use Rattle.playout.specs.declared.side.FilerSide as filer_side
 use Rattle.playout.specs.History.{Chained}
 use Rattle.recorder.specs.Files.{end_mark}
 use Rattle.rtcp_stats.specs.declared.block.ReportBlock.{ReportBlock}
@@ -165,3 +168,8 @@ FilerRan did before now a b ended.Ended = RanOut did a b
 FilerRan did before now a b ended.LinkFault = LinkFailed did before now a b
 FilerRan did before now a b ended.JournalFault =
     ((ds : List (List ℕ × ℕ)) × (os : List Outcome) × (n : ℕ) × CutOff did a b ds os n) ⊎ Unmarked did a b
+
+-- a run of a filer over its side, its link and its journal, by what these tell before and now
+abbrev pub RunEnds : {S P J : Type 0} → filer_side.Ghosts S → link.Ghosts P → sink.Ghosts J → Known → S → P → J → Known → S → P → J → FilerEnd → Type 0
+RunEnds s p j known side link journal known_now side_now link_now journal_now end =
+    FilerRan s.did (j.faults journal) (j.faults journal_now) (standing known side (p.log link) (j.given journal)) (standing known_now side_now (p.log link_now) (j.given journal_now)) end

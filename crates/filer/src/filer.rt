@@ -8,7 +8,7 @@ ghost use Rattle.rtcp_stats.specs.Compound.{rtcp_fault};
 ghost use Rattle.rtcp_stats.specs.Writing.{FitsLost};
 ghost use Rattle.filer.specs.Takes.{IsTaken, Known, HasAllFrames, admitted, calls_of, is_rtcp, judged, new_filer, read_so, read_rtcp_so, replies_of, told_by};
 ghost use Rattle.filer.specs.Journals.{EndFits, is_filed};
-ghost use Rattle.filer.specs.Runs.{AreTaken};
+ghost use Rattle.filer.specs.Runs.{TakesOn};
 ghost use Rattle.filer.specs.declared.outcome.Outcome.{Outcome};
 
 use crate::outcome::{Outcome, OutcomeEnd};
@@ -69,9 +69,7 @@ impl Filer {
         ensures taken { IsTaken self.old datagram.now at result self.new }
         ensures calls { Chained S.did side.old (calls_of self.old datagram.now at result) side.new }
         ensures fits { EndFits result.end }
-        ensures goes_on { (k : Known) (first : S) (ds : List (List ℕ × ℕ)) (os : List Outcome) (cs : List Call) → AreTaken k ds os cs self.old → Chained S.did first cs side.old
-            → AreTaken k (ds ++ (datagram.now, at) ∷ []) (os ++ result ∷ []) (cs ++ calls_of self.old datagram.now at result) self.new
-            × Chained S.did first (cs ++ calls_of self.old datagram.now at result) side.new }
+        ensures goes_on { TakesOn S.did self.old self.new side.old side.new datagram.now at result }
     {
         self.take_one(side, datagram, at)
     }

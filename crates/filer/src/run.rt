@@ -1,7 +1,7 @@
 // A filer from its first datagram to the end of its link.
 ghost use Rattle.std.specs.Prelude.{◌≡◌, ◌≤◌, ℕ, true};
 ghost use Rattle.gate_base.specs.Faults.{Rose};
-ghost use Rattle.filer.specs.Turns.{FilerRan, Stopped, standing};
+ghost use Rattle.filer.specs.Turns.{RunEnds, Stopped, standing};
 ghost use Rattle.filer.specs.declared.run.FilerEnd.{FilerEnd};
 
 use crate::filer::Filer;
@@ -32,7 +32,7 @@ impl Filer {
         link: &mut P,
         journal: &mut J,
     ) -> FilerEnd
-        ensures ran { FilerRan S.did (J.faults journal.old) (J.faults journal.new) (standing self.old side.old (P.log link.old) (J.given journal.old)) (standing self.new side.new (P.log link.new) (J.given journal.new)) result }
+        ensures ran { RunEnds S.FilerSide P.Link J.Sink self.old side.old link.old journal.old self.new side.new link.new journal.new result }
         ensures ended { result ≡ FilerEnd.Ended → P.ended link.new ≡ true }
         ensures link_later { P.faults link.old ≤ P.faults link.new }
         ensures link_fault { result ≡ FilerEnd.LinkFault → Rose (P.faults link.old) (P.faults link.new) }

@@ -4,11 +4,15 @@ use Rattle.std.specs.List.{flat_map, AllByRecursion}
 use Rattle.std.specs.Io.KnownBytes.{Appends}
 use Rattle.gate_io.specs.Flow.{AppendsPart}
 use Rattle.gate_io.specs.Links.{LinkLog}
+use Rattle.gate_io.specs.declared.link.Link as link
+use Rattle.gate_io.specs.declared.sink.Sink as sink
+use Rattle.gate_io.specs.declared.source.Source as source
 use Rattle.frame_codec.specs.Octets.{IsFrame}
 use Rattle.frame_codec.specs.declared.item.Item.{Item}
 use Rattle.frame_codec.specs.declared.item.Item.TheVariants as items
 use Rattle.playout.specs.declared.call.Call.{Call}
 use Rattle.playout.specs.declared.call.Call.TheVariants.{FileCall, SourceCall, BaseCall, PeekCall, TickCall}
+use Rattle.playout.specs.declared.side.PlayerSide as player_side
 use Rattle.playout.specs.History.{Chained, ticks}
 use Rattle.recorder.specs.declared.tally.PlayTally.{PlayTally}
 use Rattle.recorder.specs.Play.{call_text}
@@ -56,6 +60,11 @@ pub record Standing (S : Type 0) : Type 0 where
 abbrev pub standing : {S : Type 0} → Playing → S → ℕ → Option (List ℕ) → Option (List ℕ) → Option (List ℕ) → Option LinkLog → Standing S
 standing {S} player side position heard written left log =
     record { player = player; side = side; position = position; heard = heard; written = written; left = left; log = log }
+
+-- the same, by what the side, the speaker, the journal, the microphone and the reply link tell
+abbrev pub standing_of : {S O J I P : Type 0} → player_side.Ghosts S → sink.Ghosts O → sink.Ghosts J → source.Ghosts I → link.Ghosts P → Playing → S → O → J → I → P → Standing S
+standing_of s o j i p player side speaker journal microphone reply =
+    standing player side (s.position side) (o.given speaker) (j.given journal) (i.left microphone) (p.log reply)
 
 -- ---- what is asked of the side
 
@@ -142,3 +151,9 @@ pub record Beats {S : Type 0} (did : S → Call → S → Type 0) (a b : Standin
   pub speaker : Hears end a.heard b.heard (sample_octets played)
   pub journal : Writes end a.written b.written (flat_map call_text (calls_of found))
   pub reply : Replies end a.player.stream b.player.stream a.left b.left a.log b.log
+
+-- a beat of a player over its side, its speaker, its journal, its microphone and its reply link, by what these tell before and now
+abbrev pub BeatMade : {S O J I P : Type 0} → player_side.Ghosts S → sink.Ghosts O → sink.Ghosts J → source.Ghosts I → link.Ghosts P
+    → Playing → S → O → J → I → P → Playing → S → O → J → I → P → Beat → Type 0
+BeatMade s o j i p player side speaker journal microphone reply player_now side_now speaker_now journal_now microphone_now reply_now end =
+    Beats s.did (standing_of s o j i p player side speaker journal microphone reply) (standing_of s o j i p player_now side_now speaker_now journal_now microphone_now reply_now) end

@@ -3,13 +3,17 @@ use Rattle.std.specs.Prelude.{◌≡◌, ◌⊎◌, ℕ, zero, suc, List, [], �
 use Rattle.std.specs.Io.KnownBytes.{Appends}
 use Rattle.gate_base.specs.Faults.{Rose}
 use Rattle.gate_io.specs.Flow.{AppendsPart}
+use Rattle.gate_io.specs.declared.link.Link as link
+use Rattle.gate_io.specs.declared.sink.Sink as sink
+use Rattle.gate_io.specs.declared.source.Source as source
 use Rattle.playout.specs.declared.call.Call.{Call}
+use Rattle.playout.specs.declared.side.PlayerSide as player_side
 use Rattle.recorder.specs.Files.{end_mark}
 use Rattle.player.specs.declared.beat.Beat.{Beat}
 use Rattle.player.specs.declared.beat.Beat.TheVariants as beat
 use Rattle.player.specs.declared.run.PlayerEnd.{PlayerEnd}
 use Rattle.player.specs.declared.run.PlayerEnd.TheVariants as ended
-use Rattle.player.specs.Beats.{Beats, Standing}
+use Rattle.player.specs.Beats.{Beats, Playing, Standing, standing_of}
 
 -- so many beats, one after the other, and nothing failed
 abbrev pub PlaysOn : {S : Type 0} → (S → Call → S → Type 0) → ℕ → Standing S → Standing S → Type 0
@@ -49,3 +53,18 @@ PlayerRan {S} did before now a b ended.JournalFault =
     ⊎ ((m : Standing S) × Stopped did a m ended.Ended × (b ≡ with_written m b.written) × AppendsPart m.written b.written (end_mark ∷ []))
 PlayerRan did before now a b ended.MicFault = Offered did before now a b ended.MicFault
 PlayerRan did before now a b ended.ReplyFault = Offered did before now a b ended.ReplyFault
+
+-- ---- over a player's side, its speaker, its journal, its microphone and its reply link, by what these tell before and now
+
+-- all beats of a run, before the end mark
+abbrev pub BeatsEnd : {S O J I P : Type 0} → player_side.Ghosts S → sink.Ghosts O → sink.Ghosts J → source.Ghosts I → link.Ghosts P
+    → Playing → S → O → J → I → P → Playing → S → O → J → I → P → PlayerEnd → Type 0
+BeatsEnd s o j i p player side speaker journal microphone reply player_now side_now speaker_now journal_now microphone_now reply_now end =
+    Stopped s.did (standing_of s o j i p player side speaker journal microphone reply) (standing_of s o j i p player_now side_now speaker_now journal_now microphone_now reply_now) end
+
+-- a whole run
+abbrev pub RunEnds : {S O J I P : Type 0} → player_side.Ghosts S → sink.Ghosts O → sink.Ghosts J → source.Ghosts I → link.Ghosts P
+    → Playing → S → O → J → I → P → Playing → S → O → J → I → P → PlayerEnd → Type 0
+RunEnds s o j i p player side speaker journal microphone reply player_now side_now speaker_now journal_now microphone_now reply_now end =
+    PlayerRan s.did (j.faults journal) (j.faults journal_now)
+    (standing_of s o j i p player side speaker journal microphone reply) (standing_of s o j i p player_now side_now speaker_now journal_now microphone_now reply_now) end

@@ -33,6 +33,15 @@ gone_on s encoder = record s { sequence = (s.sequence + 1) % 2 ^ 16; stamp = (s.
 
 -- ---- one call
 
+-- an encoder has gone on by these samples, and these are their fields
+abbrev pub EncodesNext : Held → Held → List ℤ → Fields → Type 0
+EncodesNext old new samples fields = (before : List ℤ) (frames : List Fields) → Encodes before frames old → Encodes (before ++ samples) (frames ++ fields ∷ []) new
+
+-- the octets are the packet of the frame that these samples become
+abbrev pub IsPacketOf : Stream → Stream → List ℤ → List ℕ → Type 0
+IsPacketOf old new samples octets =
+    (frame : List ℕ) × (fields : Fields) × IsFrame frame × Spells frame fields × (octets ≡ next_packet old frame) × EncodesNext old.encoder new.encoder samples fields
+
 -- the next piece was taken from the microphone, and its frame is the next of the coded speech
 pub record Codes (old new : Stream) (left left_now : Option (List ℕ)) (octets frame : List ℕ) : Type 0 where
   pub samples : List ℤ
@@ -41,7 +50,7 @@ pub record Codes (old new : Stream) (left left_now : Option (List ℕ)) (octets 
   pub piece : IsPiece left left_now octets samples
   pub framed : IsFrame frame
   pub spelled : Spells frame fields
-  pub coded : (before : List ℤ) (frames : List Fields) → Encodes before frames old.encoder → Encodes (before ++ samples) (frames ++ fields ∷ []) new.encoder
+  pub coded : EncodesNext old.encoder new.encoder samples fields
   pub state : new ≡ gone_on old new.encoder
 
 -- The next packet was sent. Nothing was left of the microphone, now or before. The microphone failed, and what came of the piece is lost. The reply link
@@ -73,3 +82,9 @@ pub record Streams (own sequence stamp : ℕ) (pieces packets : List (List ℕ))
   pub own_is : s.own ≡ own
   pub sequence_is : s.sequence ≡ (sequence + length pieces) % 2 ^ 16
   pub stamp_is : s.stamp ≡ (stamp + 160 * length pieces) % 2 ^ 32
+
+-- Behind any pieces and their packets, the piece that was coded and its packet follow them.
+abbrev pub StreamsOn : Stream → Stream → Option (List ℕ) → Option (List ℕ) → Type 0
+StreamsOn old new left left_now =
+    (own sequence stamp : ℕ) (pieces packets : List (List ℕ)) (octets frame : List ℕ) → Streams own sequence stamp pieces packets old → Codes old new left left_now octets frame
+    → Streams own sequence stamp (pieces ++ octets ∷ []) (packets ++ next_packet old frame ∷ []) new

@@ -5,9 +5,13 @@ use Rattle.std.specs.Io.KnownBytes.{Appends, IsAtEnd}
 use Rattle.gate_base.specs.Faults.{Rose}
 use Rattle.gate_io.specs.Flow.{ConsumesFewer}
 use Rattle.gate_io.specs.Links.{GoesTo, LinkLog}
+use Rattle.gate_io.specs.declared.link.Link as link
+use Rattle.gate_io.specs.declared.sink.Sink as sink
+use Rattle.gate_io.specs.declared.source.Source as source
 use Rattle.frame_codec.specs.declared.item.Item.{Item}
 use Rattle.playout.specs.declared.call.Call.{Call}
 use Rattle.playout.specs.declared.call.Call.TheVariants.{PeekCall, TickCall}
+use Rattle.playout.specs.declared.side.PlayerSide as player_side
 use Rattle.playout.specs.History.{Chained, ticks}
 use Rattle.recorder.specs.Files.{end_mark}
 use Rattle.recorder.specs.Play.{call_text}
@@ -15,7 +19,7 @@ use Rattle.recorder.specs.Tallies.{call_items, play_tally}
 use Rattle.substitution.specs.Heard.{IsHeard, sample_octets}
 use Rattle.player.specs.declared.run.PlayerEnd.{PlayerEnd}
 use Rattle.player.specs.declared.run.PlayerEnd.TheVariants.{Ended, SpeakerFault, JournalFault, MicFault, ReplyFault}
-use Rattle.player.specs.Beats.{CanBeTold, Standing}
+use Rattle.player.specs.Beats.{CanBeTold, Playing, Standing, Starts, standing_of}
 use Rattle.player.specs.Pieces.{CutsOff}
 use Rattle.player.specs.Returning.{Stream, Streams}
 
@@ -136,3 +140,12 @@ pub record PlayerTold {S : Type 0} (did : S → Call → S → Type 0) (seed : L
   pub position : b.position ≡ a.position + ticks calls
   pub gave : PlayerGave seed own sequence stamp before now b.player.made calls (ports a) (ports b) end
   pub tally : b.player.tally ≡ play_tally (items_in calls)
+
+-- The same of a player over its side, its speaker, its journal, its microphone and its reply link, by what these tell before and now. It has any seed and
+-- any first numbers.
+abbrev pub RunTells : {S O J I P : Type 0} → player_side.Ghosts S → sink.Ghosts O → sink.Ghosts J → source.Ghosts I → link.Ghosts P
+    → Playing → S → O → J → I → P → Playing → S → O → J → I → P → PlayerEnd → Type 0
+RunTells s o j i p player side speaker journal microphone reply player_now side_now speaker_now journal_now microphone_now reply_now end =
+    (seed : List ℕ) (own sequence stamp most : ℕ) → Starts seed own sequence stamp most player
+    → PlayerTold s.did seed own sequence stamp (j.faults journal) (j.faults journal_now)
+    (standing_of s o j i p player side speaker journal microphone reply) (standing_of s o j i p player_now side_now speaker_now journal_now microphone_now reply_now) end

@@ -1,10 +1,9 @@
 // One beat of a player.
-ghost use Rattle.std.specs.Prelude.{◌≡◌, ◌≤◌, ◌<◌, ◌+◌, ◌^◌, ◌++◌, ◌∷◌, [], ℕ, ℤ, List, length};
+ghost use Rattle.std.specs.Prelude.{◌≡◌, ◌≤◌, ◌<◌, ◌+◌, ◌^◌, ℤ, List, length};
 ghost use Rattle.gate_base.specs.Faults.{HasCause, Rose};
 ghost use Rattle.gate_io.specs.Flow.{Gives};
-ghost use Rattle.frame_codec.specs.declared.item.Item.{Item};
-ghost use Rattle.substitution.specs.Heard.{Voices, sample_octets};
-ghost use Rattle.player.specs.Beats.{Beats, standing};
+ghost use Rattle.substitution.specs.Heard.{sample_octets};
+ghost use Rattle.player.specs.Beats.{BeatMade, Speaks};
 ghost use Rattle.player.specs.declared.beat.Beat.{Beat};
 
 use crate::found::{item_of_found, look, opens, write_found};
@@ -45,7 +44,7 @@ impl Player {
     ) -> Beat
         requires made { self.old.made < 16000000 }
         requires position { S.position side.old ≤ 2 ^ 32 + self.old.made }
-        ensures beats { Beats S.did (standing self.old side.old (S.position side.old) (O.given speaker.old) (J.given journal.old) (I.left microphone.old) (P.log reply.old)) (standing self.new side.new (S.position side.new) (O.given speaker.new) (J.given journal.new) (I.left microphone.new) (P.log reply.new)) result }
+        ensures beats { BeatMade S.PlayerSide O.Sink J.Sink I.Source P.Link self.old side.old speaker.old journal.old microphone.old reply.old self.new side.new speaker.new journal.new microphone.new reply.new result }
         ensures made { self.new.made ≡ self.old.made + 1 }
         ensures most { self.new.ticks ≡ self.old.ticks }
         ensures position { S.position side.new ≤ 2 ^ 32 + self.new.made }
@@ -83,9 +82,7 @@ impl Player {
 
 // Plays an item, and gives its 160 samples in one give.
 fn speak<O: Sink>(voice: &mut Voice, item: Item, speaker: &mut O) -> Result<(), Failed>
-    ensures spoken { (played : List ℤ) × Gives (O.given speaker.old) (O.given speaker.new) result (sample_octets played)
-        × ((seed : List ℕ) (items : List Item) (samples : List ℤ) → Voices seed items samples voice.old → Voices seed (items ++ item ∷ []) (samples ++ played) voice.new)
-        × (length played ≡ 160) }
+    ensures spoken { (played : List ℤ) × Gives (O.given speaker.old) (O.given speaker.new) result (sample_octets played) × Speaks voice.old voice.new item played × (length played ≡ 160) }
     ensures cause { HasCause (O.faults speaker.old) (O.faults speaker.new) result }
     ensures kin { O.kin speaker.old speaker.new }
 {

@@ -1,12 +1,8 @@
 // Return speech in packets.
-ghost use Rattle.std.specs.Prelude.{◌≡◌, ◌≤◌, ◌⊎◌, ◌++◌, ◌∷◌, [], false, ℕ, List, ℤ};
+ghost use Rattle.std.specs.Prelude.{◌≡◌, ◌≤◌, [], false};
 ghost use Rattle.gate_base.specs.Faults.{HasCause, Rose};
-ghost use Rattle.frame_codec.specs.Frame.{Fields, Spells};
-ghost use Rattle.frame_codec.specs.Octets.{IsFrame};
-ghost use Rattle.fr_encoder.specs.Coding.{Encodes};
 ghost use Rattle.gate_io.specs.Links.{Sends};
-ghost use Rattle.player.specs.Pieces.{whole_piece};
-ghost use Rattle.player.specs.Returning.{Codes, Returns, Streams, gone_on, next_packet, packet};
+ghost use Rattle.player.specs.Returning.{IsPacketOf, Returns, Streams, StreamsOn, gone_on, packet};
 ghost use Rattle.player.specs.declared.return_stream.ReturnEnd.TheVariants as end;
 
 use crate::pieces::take_piece;
@@ -73,9 +69,7 @@ impl ReturnStream {
     /// with zeros.
     pub fn send<I: Source, P: Link>(&mut self, microphone: &mut I, reply: &mut P) -> ReturnEnd
         ensures returns { Returns self.old self.new (I.left microphone.old) (I.left microphone.new) (P.log reply.old) (P.log reply.new) result }
-        ensures goes_on { (own sequence stamp : ℕ) (pieces packets : List (List ℕ)) (octets frame : List ℕ) → Streams own sequence stamp pieces packets self.old
-            → Codes self.old self.new (I.left microphone.old) (I.left microphone.new) octets frame
-            → Streams own sequence stamp (pieces ++ octets ∷ []) (packets ++ next_packet self.old frame ∷ []) self.new }
+        ensures goes_on { StreamsOn self.old self.new (I.left microphone.old) (I.left microphone.new) }
         ensures ended { P.ended reply.new ≡ P.ended reply.old }
         ensures later { (I.faults microphone.old ≤ I.faults microphone.new) × (P.faults reply.old ≤ P.faults reply.new) }
         ensures mic { result ≡ ReturnEnd.MicFault → Rose (I.faults microphone.old) (I.faults microphone.new) }
@@ -114,8 +108,7 @@ impl ReturnStream {
 
     // The packet of the next samples. The numbers go on.
     fn next(&mut self, samples: &[i16; 160]) -> [u8; 45]
-        ensures packet { (frame : List ℕ) × (fields : Fields) × IsFrame frame × Spells frame fields × (result ≡ next_packet self.old frame)
-            × ((before : List ℤ) (frames : List Fields) → Encodes before frames self.old.encoder → Encodes (before ++ samples.now) (frames ++ fields ∷ []) self.new.encoder) }
+        ensures packet { IsPacketOf self.old self.new samples.now result }
         ensures state { self.new ≡ gone_on self.old self.new.encoder }
     {
         let frame = pack(&self.encoder.encode(samples));

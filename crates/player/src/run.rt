@@ -1,9 +1,8 @@
 // A player from its first beat to its last.
-ghost use Rattle.std.specs.Prelude.{◌≡◌, ◌≤◌, ◌+◌, ◌^◌, ◌⊎◌, ℕ, List, true};
+ghost use Rattle.std.specs.Prelude.{◌≡◌, ◌≤◌, ◌+◌, ◌^◌, ◌⊎◌, true};
 ghost use Rattle.gate_base.specs.Faults.{Rose};
-ghost use Rattle.player.specs.Beats.{Starts, standing};
-ghost use Rattle.player.specs.PlayerRuns.{PlayerRan, Stopped};
-ghost use Rattle.player.specs.Whole.{PlayerTold};
+ghost use Rattle.player.specs.PlayerRuns.{BeatsEnd, RunEnds};
+ghost use Rattle.player.specs.Whole.{RunTells};
 ghost use Rattle.player.specs.declared.run.PlayerEnd.{PlayerEnd};
 
 use crate::beat::Beat;
@@ -42,9 +41,8 @@ impl Player {
     ) -> PlayerEnd
         requires made { self.old.made ≡ 0 }
         requires position { S.position side.old ≡ 2 ^ 32 }
-        ensures told { (seed : List ℕ) (own sequence stamp most : ℕ) → Starts seed own sequence stamp most self.old
-            → PlayerTold S.did seed own sequence stamp (J.faults journal.old) (J.faults journal.new) (standing self.old side.old (S.position side.old) (O.given speaker.old) (J.given journal.old) (I.left microphone.old) (P.log reply.old)) (standing self.new side.new (S.position side.new) (O.given speaker.new) (J.given journal.new) (I.left microphone.new) (P.log reply.new)) result }
-        ensures ran { PlayerRan S.did (J.faults journal.old) (J.faults journal.new) (standing self.old side.old (S.position side.old) (O.given speaker.old) (J.given journal.old) (I.left microphone.old) (P.log reply.old)) (standing self.new side.new (S.position side.new) (O.given speaker.new) (J.given journal.new) (I.left microphone.new) (P.log reply.new)) result }
+        ensures told { RunTells S.PlayerSide O.Sink J.Sink I.Source P.Link self.old side.old speaker.old journal.old microphone.old reply.old self.new side.new speaker.new journal.new microphone.new reply.new result }
+        ensures ran { RunEnds S.PlayerSide O.Sink J.Sink I.Source P.Link self.old side.old speaker.old journal.old microphone.old reply.old self.new side.new speaker.new journal.new microphone.new reply.new result }
         ensures ticks { C.ticks clock.new ≡ C.ticks clock.old + self.new.made }
         ensures most { self.new.ticks ≡ self.old.ticks }
         ensures within { self.new.made ≤ self.old.ticks }
@@ -76,7 +74,7 @@ impl Player {
     ) -> PlayerEnd
         requires made { self.old.made ≡ 0 }
         requires position { S.position side.old ≡ 2 ^ 32 }
-        ensures ran { PlayerRan S.did (J.faults journal.old) (J.faults journal.new) (standing self.old side.old (S.position side.old) (O.given speaker.old) (J.given journal.old) (I.left microphone.old) (P.log reply.old)) (standing self.new side.new (S.position side.new) (O.given speaker.new) (J.given journal.new) (I.left microphone.new) (P.log reply.new)) result }
+        ensures ran { RunEnds S.PlayerSide O.Sink J.Sink I.Source P.Link self.old side.old speaker.old journal.old microphone.old reply.old self.new side.new speaker.new journal.new microphone.new reply.new result }
         ensures ticks { C.ticks clock.new ≡ C.ticks clock.old + self.new.made }
         ensures most { self.new.ticks ≡ self.old.ticks }
         ensures within { self.new.made ≤ self.old.ticks }
@@ -126,7 +124,7 @@ impl Player {
     ) -> PlayerEnd
         requires made { self.old.made ≡ 0 }
         requires position { S.position side.old ≡ 2 ^ 32 }
-        ensures stopped { Stopped S.did (standing self.old side.old (S.position side.old) (O.given speaker.old) (J.given journal.old) (I.left microphone.old) (P.log reply.old)) (standing self.new side.new (S.position side.new) (O.given speaker.new) (J.given journal.new) (I.left microphone.new) (P.log reply.new)) result }
+        ensures stopped { BeatsEnd S.PlayerSide O.Sink J.Sink I.Source P.Link self.old side.old speaker.old journal.old microphone.old reply.old self.new side.new speaker.new journal.new microphone.new reply.new result }
         ensures ticks { C.ticks clock.new ≡ C.ticks clock.old + self.new.made }
         ensures most { self.new.ticks ≡ self.old.ticks }
         ensures within { self.new.made ≤ self.old.ticks }

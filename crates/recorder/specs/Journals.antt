@@ -1,6 +1,7 @@
 -- Whole journals: what is read of them, and what of octets that are none.
-use Rattle.std.specs.Prelude.{ℕ, ◌+◌, ◌≡◌, ◌≤◌, ◌<◌, ◌⊎◌, List, [], ◌∷◌, ◌++◌, length, take, Bool, true, Option, Some, Ok, Err, Result}
+use Rattle.std.specs.Prelude.{ℕ, ◌+◌, ◌≡◌, ◌≤◌, ◌<◌, ◌⊎◌, List, [], ◌∷◌, ◌++◌, length, take, Bool, true, Option, Some, Ok, Err, IsOk, Result}
 use Rattle.std.specs.List.{flat_map, AllByRecursion}
+use Rattle.gate_base.specs.Faults.{Rose}
 use Rattle.recorder.specs.declared.events.FilerEvent.{FilerEvent}
 use Rattle.recorder.specs.declared.events.PlayEvent.{PlayEvent}
 use Rattle.recorder.specs.declared.fault.RecordFault.{RecordFault}
@@ -107,6 +108,11 @@ RefusesByHead head input result = (octets : List ℕ) (f : RecordFault) → inpu
 -- Octets with a first fault are refused by it, or for want of memory.
 abbrev pub RefusesByFirst : {T : Type 0} → (List ℕ → RecordFault → Type 0) → Option (List ℕ) → Result T JournalRefusal → Type 0
 RefusesByFirst Has input result = (octets : List ℕ) (f : RecordFault) → input ≡ Some octets → Has octets f → IsRefusedBy f result ⊎ (result ≡ Err OutOfMemory)
+
+-- Octets that are a journal are read, unless a read fails, or for want of memory.
+abbrev pub ReadsWhole : {T J : Type 0} → (List ℕ → J → Type 0) → Option (List ℕ) → ℕ → ℕ → Result T JournalRefusal → Type 0
+ReadsWhole {T} {J} IsJournal input before now result =
+    (octets : List ℕ) (j : J) → input ≡ Some octets → IsJournal octets j → ¬ Rose before now → IsOk result ⊎ (result ≡ Err OutOfMemory)
 
 -- ---- laws
 

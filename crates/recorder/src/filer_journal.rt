@@ -1,9 +1,9 @@
 // A filer's journal, whole.
-ghost use Rattle.std.specs.Prelude.{ℕ, ◌≡◌, ◌≤◌, ◌<◌, ◌⊎◌, List, length, slice_index_or, take, None, Some, Err, IfOk, IfSome, IsOk, OnErr};
+ghost use Rattle.std.specs.Prelude.{ℕ, ◌≡◌, ◌≤◌, ◌<◌, List, length, slice_index_or, take, None, Err, IfOk, IfSome, OnErr};
 ghost use Rattle.std.specs.Io.KnownBytes.{Consumes};
 ghost use Rattle.gate_base.specs.Faults.{Rose};
 ghost use Rattle.recorder.specs.Heads.{IsHeading};
-ghost use Rattle.recorder.specs.Journals.{FilerRecord, FilerRecordFits, HasFilerFault, IsFilerJournal, RefusesByFirst, RefusesByHead, filer_text};
+ghost use Rattle.recorder.specs.Journals.{FilerRecordFits, HasFilerFault, IsFilerJournal, ReadsWhole, RefusesByFirst, RefusesByHead, filer_text};
 ghost use Rattle.recorder.specs.Filing.{filer_head_fault};
 ghost use Rattle.recorder.specs.Reader.{IsWithin};
 ghost use Rattle.recorder.specs.declared.fault.RecordFault.{RecordFault};
@@ -44,8 +44,7 @@ impl FilerJournal {
         ensures fault { (f : RecordFault) → result ≡ Err (JournalRefusal.End (RecordEnd.Fault f)) → IfSome (I.left source.old) (λ octets. HasFilerFault octets f) }
         ensures later { I.faults source.old ≤ I.faults source.new }
         ensures failed { result ≡ Err (JournalRefusal.End RecordEnd.ReadFailed) → Rose (I.faults source.old) (I.faults source.new) }
-        ensures complete { (octets : List ℕ) (j : FilerRecord) → I.left source.old ≡ Some octets → IsFilerJournal octets j → ¬ Rose (I.faults source.old) (I.faults source.new)
-            → IsOk result ⊎ (result ≡ Err JournalRefusal.OutOfMemory) }
+        ensures complete { ReadsWhole IsFilerJournal (I.left source.old) (I.faults source.old) (I.faults source.new) result }
         ensures head { RefusesByHead (λ octets. filer_head_fault (take 13 octets)) (I.left source.old) result }
         ensures first { RefusesByFirst HasFilerFault (I.left source.old) result }
         ensures part { OnErr result (IsWithin (I.left source.old) (I.left source.new)) }
@@ -60,8 +59,7 @@ impl FilerJournal {
         ensures fault { (f : RecordFault) → result ≡ Err (JournalRefusal.End (RecordEnd.Fault f)) → IfSome (I.left source.old) (λ octets. HasFilerFault octets f) }
         ensures later { I.faults source.old ≤ I.faults source.new }
         ensures failed { result ≡ Err (JournalRefusal.End RecordEnd.ReadFailed) → Rose (I.faults source.old) (I.faults source.new) }
-        ensures complete { (octets : List ℕ) (j : FilerRecord) → I.left source.old ≡ Some octets → IsFilerJournal octets j → ¬ Rose (I.faults source.old) (I.faults source.new)
-            → IsOk result ⊎ (result ≡ Err JournalRefusal.OutOfMemory) }
+        ensures complete { ReadsWhole IsFilerJournal (I.left source.old) (I.faults source.old) (I.faults source.new) result }
         ensures memory { result ≡ Err JournalRefusal.OutOfMemory → IfSome (I.left source.old) (λ octets. filer_head_fault (take 13 octets) ≡ None) }
         ensures part { OnErr result (IsWithin (I.left source.old) (I.left source.new)) }
     {

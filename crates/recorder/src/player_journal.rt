@@ -1,9 +1,9 @@
 // The player's journal, whole.
-ghost use Rattle.std.specs.Prelude.{ℕ, ◌≡◌, ◌≤◌, ◌<◌, ◌⊎◌, List, length, slice_index_or, take, None, Some, Err, IfOk, IfSome, IsOk, OnErr};
+ghost use Rattle.std.specs.Prelude.{ℕ, ◌≡◌, ◌≤◌, ◌<◌, List, length, slice_index_or, take, None, Err, IfOk, IfSome, OnErr};
 ghost use Rattle.std.specs.Io.KnownBytes.{Consumes};
 ghost use Rattle.gate_base.specs.Faults.{Rose};
 ghost use Rattle.recorder.specs.Heads.{IsHeading, head_fault, play_magic};
-ghost use Rattle.recorder.specs.Journals.{PlayerRecord, PlayerRecordFits, HasPlayerFault, IsPlayerJournal, RefusesByFirst, RefusesByHead, player_text};
+ghost use Rattle.recorder.specs.Journals.{PlayerRecordFits, HasPlayerFault, IsPlayerJournal, ReadsWhole, RefusesByFirst, RefusesByHead, player_text};
 ghost use Rattle.recorder.specs.Reader.{IsWithin};
 ghost use Rattle.recorder.specs.declared.fault.RecordFault.{RecordFault};
 
@@ -43,8 +43,7 @@ impl PlayerJournal {
         ensures fault { (f : RecordFault) → result ≡ Err (JournalRefusal.End (RecordEnd.Fault f)) → IfSome (I.left source.old) (λ octets. HasPlayerFault octets f) }
         ensures later { I.faults source.old ≤ I.faults source.new }
         ensures failed { result ≡ Err (JournalRefusal.End RecordEnd.ReadFailed) → Rose (I.faults source.old) (I.faults source.new) }
-        ensures complete { (octets : List ℕ) (j : PlayerRecord) → I.left source.old ≡ Some octets → IsPlayerJournal octets j → ¬ Rose (I.faults source.old) (I.faults source.new)
-            → IsOk result ⊎ (result ≡ Err JournalRefusal.OutOfMemory) }
+        ensures complete { ReadsWhole IsPlayerJournal (I.left source.old) (I.faults source.old) (I.faults source.new) result }
         ensures head { RefusesByHead (λ octets. head_fault play_magic (take 12 octets)) (I.left source.old) result }
         ensures first { RefusesByFirst HasPlayerFault (I.left source.old) result }
         ensures part { OnErr result (IsWithin (I.left source.old) (I.left source.new)) }
@@ -59,8 +58,7 @@ impl PlayerJournal {
         ensures fault { (f : RecordFault) → result ≡ Err (JournalRefusal.End (RecordEnd.Fault f)) → IfSome (I.left source.old) (λ octets. HasPlayerFault octets f) }
         ensures later { I.faults source.old ≤ I.faults source.new }
         ensures failed { result ≡ Err (JournalRefusal.End RecordEnd.ReadFailed) → Rose (I.faults source.old) (I.faults source.new) }
-        ensures complete { (octets : List ℕ) (j : PlayerRecord) → I.left source.old ≡ Some octets → IsPlayerJournal octets j → ¬ Rose (I.faults source.old) (I.faults source.new)
-            → IsOk result ⊎ (result ≡ Err JournalRefusal.OutOfMemory) }
+        ensures complete { ReadsWhole IsPlayerJournal (I.left source.old) (I.faults source.old) (I.faults source.new) result }
         ensures memory { result ≡ Err JournalRefusal.OutOfMemory → IfSome (I.left source.old) (λ octets. head_fault play_magic (take 12 octets) ≡ None) }
         ensures part { OnErr result (IsWithin (I.left source.old) (I.left source.new)) }
     {
