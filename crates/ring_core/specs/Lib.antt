@@ -6,3 +6,4 @@ pub mod Found
 pub mod CoreState
 pub mod CoreInside
 pub mod RingLaws
+pub mod RunLaws
