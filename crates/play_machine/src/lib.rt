@@ -1,4 +1,4 @@
-//! Any interleaving of the ring's callers as plain data; and the playout machine and the ring's steps, under one name.
+//! Any interleaving of the ring's callers, as plain data; and the playout machine and the ring's steps under one name.
 #![tactic(auto)]
 
 mod interleaving;

@@ -1,5 +1,5 @@
 -- A step that changes nothing puts back the view that it took.
-use Rattle.std.proofs.Common.{◌≡◌, ◌≢◌, ℕ, zero, suc, List, [], ◌∷◌, ◌++◌, ◌+◌, ◌<◌, set, get_or, Option, Some, None, is_some, Bool, true, false, true≢false, cond, refl, sym, ap, ◌∙◌, arith}
+use Rattle.std.proofs.Common.{◌≡◌, ◌≢◌, ℕ, zero, suc, List, [], ◌∷◌, ◌++◌, ◌+◌, set, get_or, Option, Some, None, is_some, Bool, true, false, true≢false, cond, refl, sym, ap, ◌∙◌, arith}
 use Rattle.std.specs.Prelude.{slice_get}
 use mathlib.Core.Option as maybe
 use lib.ListN.{get_elem?}
