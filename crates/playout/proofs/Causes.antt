@@ -11,7 +11,8 @@ use Rattle.playout.specs.History.{Entry, entry, IsLegal, after_all}
 use Rattle.playout.specs.HistoryLaws.{IsLegal-append}
 use Rattle.playout.specs.Plays.{WasAccepted}
 use Rattle.playout.specs.Causes.{next_number, NoneAccepted, IsLeastAhead, IsCause, RepliesHaveCauses, CausesGiveReplies, JustOneCause, source_said, base_said, or_later, first_source, first_base, FirstIsHeld}
-use Rattle.playout.proofs.AcceptedLaws.{none_some, position_is, accepted_there, there_accepted, nothing_yet, reply_at}
+use Rattle.playout.specs.HeldFrames.{none_some, position_is, accepted_there}
+use Rattle.playout.proofs.AcceptedLaws.{there_accepted, nothing_yet, reply_at}
 use Rattle.playout.proofs.OneReply.{one_file_reply}
 use Rattle.playout.proofs.AheadLaws.{least, formula_is_ahead}
 

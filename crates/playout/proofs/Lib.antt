@@ -3,8 +3,6 @@ pub mod Looked
 pub mod Fits
 pub mod Moved
 pub mod AheadLaws
-pub mod FilingLaws
-pub mod HistoryLaws
 pub mod AcceptedLaws
 pub mod Once
 pub mod OneReply

@@ -9,8 +9,9 @@ use Rattle.playout.specs.declared.reply.FileReply.TheVariants.{Accepted, Duplica
 use Rattle.playout.specs.Machine.{start, Machine, opening_machine, Replies, FileReplies, after, item_of}
 use Rattle.playout.specs.History.{Entry, IsLegal, calls, ticks, tick_weight}
 use Rattle.playout.specs.Plays.{accepted_weight, times_accepted, frame_weight, played_weight, times_played, AcceptedOnce}
-use Rattle.playout.proofs.FilingLaws.{get-insert_here, get-insert_else, get-remove_else}
-use Rattle.playout.proofs.AcceptedLaws.{call-position, nothing_yet}
+use Rattle.playout.specs.FrameLaws.{get-insert_here, get-insert_else, get-remove_else}
+use Rattle.playout.specs.HeldFrames.{call-position}
+use Rattle.playout.proofs.AcceptedLaws.{nothing_yet}
 
 -- 1 where there is a frame
 abbrev weight_of : Option (List ℕ) → ℕ

@@ -5,4 +5,8 @@ pub mod Line
 pub mod Pairs
 pub mod Inside
 pub mod Plays
+pub mod LongerHistory
+pub mod Turns
+pub mod FrameLaws
+pub mod HeldFrames
 pub mod Causes

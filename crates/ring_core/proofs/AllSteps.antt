@@ -2,6 +2,7 @@
 use Rattle.std.proofs.Common.{None}
 use Rattle.ring_core.specs.Core.{held_in}
 use Rattle.ring_core.specs.RingLaws.{AllStepsKeepTheRule, CallersAreFresh, GatheredAreTheCalls, OpeningMeetsTheRule, SlotsAreNear}
+use Rattle.ring_core.specs.HeldLaws.{held_is}
 use Rattle.ring_core.proofs.Tick.{tick_keeps}
 use Rattle.ring_core.proofs.Replied.{load_keeps}
 use Rattle.ring_core.proofs.Publish.{publish_keeps}
@@ -13,7 +14,6 @@ use Rattle.ring_core.proofs.Learn.{learn_keeps}
 use Rattle.ring_core.proofs.Gather.{gather_keeps}
 use Rattle.ring_core.proofs.Source.{source_keeps, source_again}
 use Rattle.ring_core.proofs.Base.{base_keeps, base_again}
-use Rattle.ring_core.proofs.Core.{held_is}
 use Rattle.ring_core.proofs.Opening.{opens}
 use Rattle.ring_core.proofs.Closing.{gathered_is}
 use Rattle.ring_core.proofs.Fresh.{fresh_tick, fresh_word, fresh_accepted, published_within}

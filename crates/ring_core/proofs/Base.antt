@@ -15,7 +15,7 @@ use Rattle.playout.specs.Machine.{start, Machine, opening_machine, held_or, afte
 use Rattle.playout.specs.History.{Entry, entry, after_all, calls, ticks}
 use Rattle.ring_core.specs.Ring.{Ring, slot_count, word_of, Place, in_slot, in_berth, with_seat, Names, SlotFits, KnownFits, RoleFits, RingRule}
 use Rattle.ring_core.specs.Steps.{caller_view, view_at, based, base_at}
-use Rattle.playout.proofs.HistoryLaws.{after_all-snoc, legal-snoc, callers-snoc, ticks-snoc, calls-snoc, all_accepted-longer}
+use Rattle.playout.specs.LongerHistory.{after_all-snoc, legal-snoc, callers-snoc, ticks-snoc, calls-snoc, all_accepted-longer}
 use Rattle.ring_core.proofs.Seats.{known_kept}
 use Rattle.ring_core.proofs.Kept.{callers_after}
 use Rattle.ring_core.proofs.Replied.{names_before, names_after, reply_keeps}

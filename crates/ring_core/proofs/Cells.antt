@@ -12,7 +12,8 @@ use Rattle.ring_core.specs.declared.words.SlotWord.{SlotWord}
 use Rattle.ring_core.specs.declared.words.Cell.{Cell}
 use Rattle.ring_core.specs.declared.words.Cell.TheVariants.{AtHome, OutWith}
 use Rattle.ring_core.specs.Ring.{Ring, Place, in_slot, in_berth, with_seat, StandsIn, Names}
-use Rattle.ring_core.proofs.Seats.{set_at, at_one}
+use Rattle.ring_core.specs.ListPlaces.{at_one}
+use Rattle.ring_core.proofs.Seats.{set_at}
 
 abbrev Places : Type 0
 Places = ℕ → Place

@@ -12,7 +12,7 @@ use Rattle.ring_core.specs.declared.words.Berth.TheVariants.{Fresh, Out, Home}
 use Rattle.ring_core.specs.Ring.{Ring, IsCalling, HasLeft, CallerStands, RingRule}
 use Rattle.ring_core.specs.CoreState.{IsListOf}
 use Rattle.ring_core.specs.Steps.{pool_view}
-use Rattle.ring_core.proofs.Kept.{at_exists}
+use Rattle.ring_core.specs.ListPlaces.{at_exists}
 
 pub gathered_is : (k : Shape) (s : Ring) (rule : RingRule k s) (id : ℕ) (p : Pooling) (who : ℕ) (l : List Call) → get_elem? s.views id ≡ some (pool_view k p) → who ≤ k.filers → slice_get p.lists who ≡ Some (Some l) → l ≡ calls_of who rule.history
 gathered_is k s rule id p who l at low has =

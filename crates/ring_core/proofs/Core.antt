@@ -24,8 +24,8 @@ use Rattle.ring_core.specs.Ring.{Ring, slot_count, word_of, Place, in_slot, Stan
 use Rattle.ring_core.specs.Steps.{caller_view, pool_view, note_view, gone_view, position_of, loaded, view_at, publish_at, free_word}
 use Rattle.ring_core.specs.Opening.{opening_ring}
 use Rattle.ring_core.specs.Core.{kept_in, view_role, held_in, no_lists, on_ground, is_player, is_filer, tick_word, tick_role, load_word, load_role, publish_word, publish_flight, publish_role, enlist_berth, enlist_right, enlist_role, leave_role, split_right, split_role, learn_roles, gather_roles, source_word, source_role, base_word, base_role, peek_role, role_at, happens, run}
-use Rattle.ring_core.proofs.Seats.{at_one}
-use Rattle.ring_core.proofs.Kept.{at_exists}
+use Rattle.ring_core.specs.HeldLaws.{held_is}
+use Rattle.ring_core.specs.ListPlaces.{at_exists, at_one}
 use Rattle.ring_core.proofs.Tick.{tick_keeps}
 use Rattle.ring_core.proofs.Replied.{load_keeps}
 use Rattle.ring_core.proofs.Publish.{publish_keeps}
@@ -101,11 +101,6 @@ held_none word e = go (eqb word 0) refl e
     go : (b : Bool) → eqb word 0 ≡ b → cond b None (Some (word - 4294967296)) ≡ None → word ≡ 0
     go true t e = eq_of word 0 t
     go false t e = absurd (cc)
-
--- what is read of a word is what is held
-pub held_is : (o : Option ℕ) (word : ℕ) → word ≡ word_of o → held_in word ≡ o
-held_is None word is = ap (λ (b : Bool). cond b None (Some (word - 4294967296))) (let t : eqb word 0 ≡ true = grind (arith, nat_tests) in t)
-held_is (Some x) word is = ap (λ (b : Bool). cond b None (Some (word - 4294967296))) (let t : eqb word 0 ≡ false = grind (arith, nat_tests) in t) ∙ ap Some (let h : word - 4294967296 ≡ x = omega arith in h)
 
 module _ (k : Shape) (s : Ring) (rule : RingRule k s) (id : ℕ) where
   abbrev Sees : Role → Type 0

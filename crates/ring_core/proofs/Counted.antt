@@ -4,7 +4,7 @@ use Rattle.std.proofs.lemmas.List.{take_more}
 use Rattle.playout.specs.declared.call.Call.{Call}
 use Rattle.playout.specs.History.{ticks, tick_weight}
 use Rattle.ring_core.specs.Core.{no_lists}
-use Rattle.playout.proofs.HistoryLaws.{ticks-snoc}
+use Rattle.playout.specs.LongerHistory.{ticks-snoc}
 
 pub ticks_more : (l : List Call) (i : ℕ) (c : Call) → i < length l → c ≡ get_or l i c → ticks (take (i + 1) l) ≡ ticks (take i l) + tick_weight c
 ticks_more l i c below is = ap ticks (take_more l i c below) ∙ (ap (λ (x : Call). ticks (take i l ++ x ∷ [])) (sym is) ∙ ticks-snoc (take i l) c)

@@ -1,9 +1,7 @@
--- Lists by place: an element put, and a list made longer. Two numbers in one turn of the ring.
-use Rattle.std.proofs.Common.{◌≡◌, ◌≢◌, ◌⊎◌, inl, inr, ⊎_elim, ℕ, zero, suc, ◌+◌, ◌%◌, ◌<◌, ◌≤◌, List, [], ◌∷◌, ◌++◌, set, length, get_or, refl, sym, ap, arith}
-use Rattle.std.proofs.lemmas.Bool.{cases_lt}
+-- Lists by place: an element put, and a list made longer.
+use Rattle.std.proofs.Common.{◌≡◌, ◌≢◌, ◌⊎◌, inl, inr, ⊎_elim, ℕ, zero, suc, ◌<◌, ◌≤◌, List, [], ◌∷◌, ◌++◌, set, length, get_or, refl, sym, ap, arith}
 use mathlib.Core.Option.{some, none, some-ne-none, some-injective}
 use lib.ListN.{get_elem?}
-use Rattle.playout.proofs.AheadLaws.{turn_apart}
 
 module _ {A : Type 0} where
   -- what stands at j once a was put at i
@@ -44,7 +42,3 @@ module _ {A : Type 0} where
   at_longer [] more i a there = absurd (some-ne-none a (sym there))
   at_longer (x ∷ l) more zero a there = there
   at_longer (x ∷ l) more (suc i) a there = at_longer l more i a there
-
--- two numbers of one remainder, less than a turn apart, are one
-pub one_turn : (a b r : ℕ) → a ≤ b → b < a + r → a % r ≡ b % r → a ≡ b
-one_turn a b r low near same = elim (cases_lt a b) [ inl above ↦ absurd (omega (arith, turn_apart a b r above same)) | inr equal ↦ omega arith ]

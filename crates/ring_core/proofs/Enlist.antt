@@ -1,5 +1,5 @@
 -- An enlisting keeps the rule.
-use Rattle.std.proofs.Common.{◌≡◌, ◌≢◌, ⊎_elim, ℕ, ◌+◌, ◌<◌, ◌≤◌, List, length, Option, Some, None, true, refl, sym, ap, ◌∙◌, subst, arith, length-set}
+use Rattle.std.proofs.Common.{◌≡◌, ◌≢◌, ⊎_elim, ℕ, ◌+◌, ◌<◌, List, length, Option, Some, None, true, refl, sym, ap, ◌∙◌, subst, arith, length-set}
 use Rattle.std.specs.Prelude.{slice_get}
 use mathlib.Core.Option.{some}
 use lib.ListN.{get_elem?}
@@ -15,25 +15,15 @@ use Rattle.playout.specs.Machine.{start, Machine, opening_machine}
 use Rattle.playout.specs.History.{after_all, calls, calls_of, ticks}
 use Rattle.ring_core.specs.declared.words.SlotWord.{SlotWord}
 use Rattle.ring_core.specs.declared.words.Berth.{Berth}
-use Rattle.ring_core.specs.declared.words.Berth.TheVariants.{Fresh, Out, Home}
+use Rattle.ring_core.specs.declared.words.Berth.TheVariants.{Fresh, Out}
 use Rattle.ring_core.specs.declared.words.Cell.{Cell}
 use Rattle.ring_core.specs.declared.words.Cell.TheVariants.{AtHome, OutWith}
 use Rattle.ring_core.specs.Ring.{berth_cell, Ring, slot_count, Place, in_slot, in_berth, with_seat, Names, StandsIn, HasRight, IsCalling, HasLeft, CallerStands, RoleFits, RingRule}
 use Rattle.ring_core.specs.Steps.{pool_view, caller_view, newcomer, enlist_at}
-use Rattle.ring_core.proofs.Seats.{set_at, at_below, at_one, Same, stands_kept}
+use Rattle.ring_core.proofs.Seats.{set_at, at_below, Same, stands_kept}
 use Rattle.ring_core.proofs.Cells.{put, put_here, put_else}
-use Rattle.ring_core.proofs.Kept.{at_exists}
-
--- the berth of a right that is held is fresh
-pub right_is_fresh : (k : Shape) (s : Ring) (rule : RingRule k s) (id : ℕ) (p : Pooling) (who : ℕ) → get_elem? s.views id ≡ some (pool_view k p) → slice_get p.rights who ≡ Some true → who ≤ k.filers → (cell : ℕ) × (get_elem? s.berths who ≡ some (Fresh cell))
-right_is_fresh k s rule id p who at has low =
-    let n : ℕ = length s.berths in let wide : n ≡ k.filers + 1 = rule.sized.berths in
-    let b = at_exists s.berths who (omega arith) in go b.0 b.1 (rule.caller who b.0 b.1)
-  where
-    go : (b : Berth) → get_elem? s.berths who ≡ some b → CallerStands s.views who (calls_of who rule.history) b → (cell : ℕ) × (get_elem? s.berths who ≡ some (Fresh cell))
-    go (Fresh cell) e st = (cell, e)
-    go Out e st = absurd (st.0 id (pool_view k p) at has)
-    go (Home cell) e st = absurd (st.0 id (pool_view k p) at has)
+use Rattle.ring_core.specs.RuleLaws.{fresh_place}
+use Rattle.ring_core.specs.ListPlaces.{at_one}
 
 module _ (k : Shape) (s : Ring) (rule : RingRule k s) (id : ℕ) (p : Pooling) (who cell : ℕ) (at : get_elem? s.views id ≡ some (pool_view k p)) (has : slice_get p.rights who ≡ Some true)
     (empty : (n : ℕ) (l : List Call) → slice_get p.lists n ≡ Some (Some l) → ⊥) (berth : get_elem? s.berths who ≡ some (Fresh cell)) where
@@ -67,8 +57,8 @@ module _ (k : Shape) (s : Ring) (rule : RingRule k s) (id : ℕ) (p : Pooling) (
   none_some : (a : ℕ) → Path (Option ℕ) None (Some a) → ⊥
   none_some a e = cc
 
-  pub was : (rule.place cell ≡ in_berth who) × (cell < length s.cells)
-  was = rule.alone (in_berth who) cell (Fresh cell, berth, refl)
+  was : (rule.place cell ≡ in_berth who) × (cell < length s.cells)
+  was = fresh_place k s rule who cell berth
 
   -- no seat was named in the place of this one, since its view is a pool
   not_seat : (n : ℕ) → Names s (with_seat id) n → ⊥

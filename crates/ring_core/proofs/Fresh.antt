@@ -17,9 +17,9 @@ use Rattle.playout.specs.Plays.{AllAccepted}
 use Rattle.ring_core.specs.Steps.{caller_view, position_of, taken}
 use Rattle.ring_core.specs.RingLaws.{IsThere}
 use Rattle.std.proofs.lemmas.Bool.{cases_lt}
-use Rattle.playout.proofs.AcceptedLaws.{accepted_there}
-use Rattle.playout.proofs.FilingLaws.{window_holds}
-use Rattle.playout.proofs.AheadLaws.{turn_apart}
+use Rattle.playout.specs.HeldFrames.{accepted_there}
+use Rattle.playout.specs.FrameLaws.{window_holds}
+use Rattle.playout.specs.Turns.{turn_apart}
 use Rattle.ring_core.proofs.Tick.{here, said}
 
 accepted_from : (ps : List (ℕ × List ℕ)) (h : List Entry) (n : ℕ) (f : List ℕ) → AllAccepted ps h → Has ps n f → WasAccepted n f h

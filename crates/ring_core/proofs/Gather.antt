@@ -19,7 +19,8 @@ use Rattle.ring_core.specs.declared.words.Berth.{Berth}
 use Rattle.ring_core.specs.declared.words.Berth.TheVariants.{Fresh, Out, Home}
 use Rattle.ring_core.specs.Ring.{Ring, slot_count, Place, in_slot, in_berth, with_seat, Names, HasRight, IsCalling, HasLeft, CallerStands, RoleFits, RingRule}
 use Rattle.ring_core.specs.Steps.{pool_view, gone_view, spent_view, with_list, gather_at}
-use Rattle.ring_core.proofs.Seats.{set_at, at_one, Same, stands_kept}
+use Rattle.ring_core.specs.ListPlaces.{at_one}
+use Rattle.ring_core.proofs.Seats.{set_at, Same, stands_kept}
 
 module _ {A : Type 0} where
   get_set_else : (l : List A) (i j : ℕ) (a : A) → j ≢ i → slice_get (set l i a) j ≡ slice_get l j

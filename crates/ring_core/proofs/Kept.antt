@@ -1,7 +1,6 @@
 -- What of the rule stays at a call, in general.
-use Rattle.std.proofs.Common.{◌≡◌, ◌≢◌, ℕ, suc, zero, ◌+◌, ◌<◌, ◌≤◌, List, [], ◌∷◌, ◌++◌, set, length, false, refl, sym, ap, ◌∙◌, subst, arith}
+use Rattle.std.proofs.Common.{◌≡◌, ◌≢◌, ℕ, ◌≤◌, List, [], ◌∷◌, ◌++◌, set, false, refl, sym, ap, ◌∙◌, subst}
 use native.Mathlib.Decide.{ℕ_discrete}
-use Rattle.std.proofs.lemmas.Nat.{pow_pos}
 use mathlib.Core.Option.{some}
 use lib.ListN.{get_elem?}
 use Rattle.playout.specs.declared.call.Call.{Call}
@@ -14,19 +13,10 @@ use Rattle.playout.specs.Machine.{Machine}
 use Rattle.playout.specs.History.{Entry, entry, calls_of}
 use Rattle.ring_core.specs.declared.words.SlotWord.{SlotWord}
 use Rattle.ring_core.specs.declared.words.Berth.{Berth}
-use Rattle.ring_core.specs.Ring.{Ring, slot_count, CallerStands, KnownFits, FlightFits, RoleFits, RingRule}
+use Rattle.ring_core.specs.Ring.{Ring, CallerStands, KnownFits, FlightFits, RoleFits}
 use Rattle.ring_core.specs.Steps.{caller_view}
-use Rattle.playout.proofs.HistoryLaws.{calls_of-same, calls_of-other}
+use Rattle.playout.specs.LongerHistory.{calls_of-same, calls_of-other}
 use Rattle.ring_core.proofs.Seats.{Same, stands_kept, calling_kept, known_kept, flight_kept}
-
-module _ {A : Type 0} where
-  pub at_exists : (l : List A) (i : ℕ) → i < length l → (a : A) × (get_elem? l i ≡ some a)
-  at_exists [] i h = absurd (omega arith)
-  at_exists (x ∷ xs) zero h = (x, refl)
-  at_exists (x ∷ xs) (suc i) h = at_exists xs i (omega arith)
-
-pub slots_positive : (k : Shape) → 0 < slot_count k
-slots_positive k = pow_pos k.g
 
 -- two callers with one number say the same of every other number
 pub same_callers : (who : ℕ) (c d : Calling) → d.who ≡ c.who → who ≢ c.who → Same who (Caller c) (Caller d)
@@ -55,15 +45,6 @@ callers_after k views berths id c d call h at is longer stands who b e = go (ℕ
     go (no other) =
         subst (λ (l : List Call). CallerStands (set views id (caller_view k d)) who l b) (sym (calls_of-other who h (entry c.who call) (λ z. other (sym z))))
         (stands_kept views id (caller_view k c) (caller_view k d) at who (calls_of who h) b (same_callers who c d is other) (stands who b e))
-
--- the list of a caller is the history's
-pub list_is : (k : Shape) (s : Ring) (r : RingRule k s) (id : ℕ) (c : Calling) → get_elem? s.views id ≡ some (caller_view k c) → c.list ≡ calls_of c.who r.history
-list_is k s r id c at =
-    let role = r.role id (caller_view k c) at in
-    let low : c.who ≤ k.filers = role.0 in
-    let n : ℕ = length s.berths in let wide : n ≡ k.filers + 1 = r.sized.berths in
-    let b = at_exists s.berths c.who (omega arith) in
-    (calling_kept s.views id (caller_view k c) (caller_view k c) c c (calls_of c.who r.history) c.list b.0 at refl refl refl refl (r.caller c.who b.0 b.1)).0
 
 -- what a view other than the one that steps says stays so
 pub role_kept : (s t : Ring) (r : ℕ) (m n : Machine) (h : List Entry) (e : Entry) (filers i : ℕ) (w x : SlotWord) (role : Role) → t.source ≡ s.source → t.base ≡ s.base → t.slots ≡ set s.slots i x

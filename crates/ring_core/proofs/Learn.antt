@@ -14,7 +14,8 @@ use Rattle.playout.specs.History.{after_all, Entry, calls_of}
 use Rattle.ring_core.specs.Ring.{Ring, slot_count, word_of, Place, in_slot, in_berth, with_seat, Names, KnownFits, RoleFits, RingRule}
 use Rattle.playout.specs.Plays.{AllAccepted}
 use Rattle.ring_core.specs.Steps.{caller_view, note_view, spent_view, either_known, merged, told_by, view_at, learn_at}
-use Rattle.ring_core.proofs.Seats.{at_one, Same, stands_kept}
+use Rattle.ring_core.specs.ListPlaces.{at_one}
+use Rattle.ring_core.proofs.Seats.{Same, stands_kept}
 use Rattle.ring_core.proofs.Replied.{quiet_keeps}
 
 all_both : (ps qs : List (ℕ × List ℕ)) (h : List Entry) → AllAccepted ps h → AllAccepted qs h → AllAccepted (ps ++ qs) h

@@ -1,5 +1,5 @@
 -- A leaving keeps the rule.
-use Rattle.std.proofs.Common.{◌≡◌, ◌≢◌, ⊎_elim, ℕ, ◌+◌, ◌<◌, ◌≤◌, List, length, Option, Some, None, refl, sym, ap, ◌∙◌, subst, arith, length-set}
+use Rattle.std.proofs.Common.{◌≡◌, ◌≢◌, ⊎_elim, ℕ, ◌<◌, List, length, Option, Some, None, refl, sym, ap, ◌∙◌, subst, arith, length-set}
 use mathlib.Core.Option.{some}
 use lib.ListN.{get_elem?}
 use Rattle.ring_core.proofs.Elements.{at_set, set_else}
@@ -13,14 +13,15 @@ use Rattle.playout.specs.Machine.{Machine, opening_machine}
 use Rattle.playout.specs.History.{after_all, calls_of}
 use Rattle.ring_core.specs.declared.words.SlotWord.{SlotWord}
 use Rattle.ring_core.specs.declared.words.Berth.{Berth}
-use Rattle.ring_core.specs.declared.words.Berth.TheVariants.{Fresh, Out, Home}
+use Rattle.ring_core.specs.declared.words.Berth.TheVariants.{Out, Home}
 use Rattle.ring_core.specs.declared.words.Cell.{Cell}
 use Rattle.ring_core.specs.declared.words.Cell.TheVariants.{AtHome}
 use Rattle.ring_core.specs.Ring.{berth_cell, Ring, slot_count, Place, in_slot, in_berth, with_seat, Names, StandsIn, HasRight, IsCalling, HasLeft, CallerStands, RoleFits, RingRule}
 use Rattle.ring_core.specs.Steps.{caller_view, departed_view, leave_at}
-use Rattle.ring_core.proofs.Seats.{set_at, at_one, Same, stands_kept}
+use Rattle.ring_core.proofs.Seats.{set_at, Same, stands_kept}
 use Rattle.ring_core.proofs.Cells.{put, put_here, put_else}
-use Rattle.ring_core.proofs.Kept.{at_exists}
+use Rattle.ring_core.specs.RuleLaws.{caller_is_out}
+use Rattle.ring_core.specs.ListPlaces.{at_one}
 
 module _ (k : Shape) (s : Ring) (rule : RingRule k s) (id : ℕ) (c : Calling) (z : Option (List ℕ)) (at : get_elem? s.views id ≡ some (caller_view k c)) where
   abbrev v : View
@@ -62,16 +63,8 @@ module _ (k : Shape) (s : Ring) (rule : RingRule k s) (id : ℕ) (c : Calling) (
   was : (rule.place c.spare ≡ with_seat id) × (c.spare < length s.cells)
   was = rule.alone (with_seat id) c.spare (v, c, at, refl, refl)
 
-  -- the berth of a caller is out
-  pub is_out : get_elem? s.berths c.who ≡ some Out
-  is_out =
-      let low : c.who ≤ k.filers = (rule.role id v at).0 in let n : ℕ = length s.berths in let wide : n ≡ k.filers + 1 = rule.sized.berths in
-      let b = at_exists s.berths c.who (omega arith) in go b.0 b.1 (rule.caller c.who b.0 b.1)
-    where
-      go : (b : Berth) → get_elem? s.berths c.who ≡ some b → CallerStands s.views c.who (calls_of c.who rule.history) b → get_elem? s.berths c.who ≡ some Out
-      go (Fresh x) e st = absurd (st.1 id v c.list at (refl, refl))
-      go Out e st = e
-      go (Home x) e st = absurd (st.1 id v c.list at (refl, refl))
+  is_out : get_elem? s.berths c.who ≡ some Out
+  is_out = caller_is_out k s rule id c at
 
   same_spare : (n : ℕ) → Names s (with_seat id) n → n ≡ c.spare
   same_spare n a = sym a.4 ∙ ap (λ (d : Calling). d.spare) (caller-injective a.1 c (sym a.3 ∙ ap (λ (y : View). y.role) (at_one s.views id a.0 v a.2 at)))

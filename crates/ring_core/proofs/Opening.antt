@@ -24,17 +24,13 @@ use Rattle.ring_core.specs.declared.words.Cell.TheVariants.{AtHome}
 use Rattle.ring_core.specs.Ring.{berth_cell, Ring, slot_count, Place, in_slot, in_berth, with_seat, Names, StandsIn, HasLeft, CallerStands, SlotFits, RoleFits, IsSized, RingRule}
 use Rattle.ring_core.specs.Steps.{free_word, pool_view}
 use Rattle.ring_core.specs.Opening.{slots_from, berths_from, all_rights, opening_ring}
+use Rattle.ring_core.specs.OpeningLaws.{length-berths, length-slots, slot_there}
 use Rattle.ring_core.proofs.Split.{get_replicate}
 
 slot_from : (i n j : ℕ) (w : SlotWord) → get_elem? (slots_from i n) j ≡ some w → (j < n) × (free_word (start + (i + j)) (i + j) ≡ w)
 slot_from i zero j w e = absurd (some-ne-none w (sym e))
 slot_from i (suc n) zero w e = (omega arith, ap (λ (k : ℕ). free_word (start + k) k) (let h : i + 0 ≡ i = omega arith in h) ∙ some-injective (free_word (start + i) i) w e)
 slot_from i (suc n) (suc j) w e = let t = slot_from (suc i) n j w e in let low : j < n = t.0 in (omega arith, ap (λ (k : ℕ). free_word (start + k) k) (let h : i + suc j ≡ suc i + j = omega arith in h) ∙ t.1)
-
-slot_there : (i n j : ℕ) → j < n → get_elem? (slots_from i n) j ≡ some (free_word (start + (i + j)) (i + j))
-slot_there i zero j h = absurd (omega arith)
-slot_there i (suc n) zero h = ap (λ (k : ℕ). some (free_word (start + k) k)) (let h : i ≡ i + 0 = omega arith in h)
-slot_there i (suc n) (suc j) h = slot_there (suc i) n j (omega arith) ∙ ap (λ (k : ℕ). some (free_word (start + k) k)) (let h : suc i + j ≡ i + suc j = omega arith in h)
 
 berth_from : (i n j : ℕ) (b : Berth) → get_elem? (berths_from i n) j ≡ some b → (j < n) × (Fresh (i + j) ≡ b)
 berth_from i zero j b e = absurd (some-ne-none b (sym e))
@@ -45,14 +41,6 @@ berth_there : (i n j : ℕ) → j < n → get_elem? (berths_from i n) j ≡ some
 berth_there i zero j h = absurd (omega arith)
 berth_there i (suc n) zero h = ap (λ (k : ℕ). some (Fresh k)) (let h : i ≡ i + 0 = omega arith in h)
 berth_there i (suc n) (suc j) h = berth_there (suc i) n j (omega arith) ∙ ap (λ (k : ℕ). some (Fresh k)) (let h : suc i + j ≡ i + suc j = omega arith in h)
-
-pub length-slots : (i n : ℕ) → length (slots_from i n) ≡ n
-length-slots i zero = refl
-length-slots i (suc n) = let h = length-slots (suc i) n in omega arith
-
-pub length-berths : (i n : ℕ) → length (berths_from i n) ≡ n
-length-berths i zero = refl
-length-berths i (suc n) = let h = length-berths (suc i) n in omega arith
 
 cell_from : (n c : ℕ) (x y : Cell) → get_elem? (replicate n x) c ≡ some y → (c < n) × (x ≡ y)
 cell_from zero c x y e = absurd (some-ne-none y (sym e))

@@ -17,8 +17,8 @@ use Rattle.ring_core.specs.declared.words.SlotWord.{SlotWord}
 use Rattle.ring_core.specs.declared.words.Cell.TheVariants.{AtHome, OutWith}
 use Rattle.ring_core.specs.Ring.{Ring, slot_count, word_of, SlotFits, RoleFits, RingRule}
 use Rattle.ring_core.specs.Steps.{caller_view, full_word, free_word, published, publish_at}
-use Rattle.playout.proofs.HistoryLaws.{after_all-snoc, legal-snoc, callers-snoc, ticks-snoc, calls-snoc, accepted-last, all_accepted-longer}
-use Rattle.playout.proofs.FilingLaws.{get-insert_here, get-insert_else}
+use Rattle.playout.specs.LongerHistory.{after_all-snoc, legal-snoc, callers-snoc, ticks-snoc, calls-snoc, accepted-last, all_accepted-longer}
+use Rattle.playout.specs.FrameLaws.{get-insert_here, get-insert_else}
 use Rattle.ring_core.proofs.Cells as cells
 use Rattle.ring_core.proofs.Kept.{callers_after, role_kept}
 

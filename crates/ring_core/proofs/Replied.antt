@@ -21,10 +21,12 @@ use Rattle.ring_core.specs.declared.words.SlotWord.{SlotWord}
 use Rattle.ring_core.specs.declared.words.Berth.{Berth}
 use Rattle.ring_core.specs.Ring.{Ring, slot_count, word_of, Place, in_slot, in_berth, with_seat, Names, CallerStands, SlotFits, KnownFits, FlightFits, RoleFits, RingRule}
 use Rattle.ring_core.specs.Steps.{caller_view, in_flight, replied, late, loaded_by, loaded, view_at}
-use Rattle.playout.proofs.AheadLaws.{turn_apart}
-use Rattle.playout.proofs.HistoryLaws.{after_all-snoc, legal-snoc, callers-snoc, ticks-snoc, calls-snoc}
-use Rattle.ring_core.proofs.Seats.{set_at, at_one, stands_kept, calling_kept, known_kept}
-use Rattle.ring_core.proofs.Kept.{callers_after, same_callers, list_is}
+use Rattle.ring_core.specs.ListPlaces.{at_one}
+use Rattle.ring_core.specs.RuleLaws.{list_is}
+use Rattle.playout.specs.Turns.{turn_apart}
+use Rattle.playout.specs.LongerHistory.{after_all-snoc, legal-snoc, callers-snoc, ticks-snoc, calls-snoc}
+use Rattle.ring_core.proofs.Seats.{set_at, stands_kept, calling_kept, known_kept}
+use Rattle.ring_core.proofs.Kept.{callers_after, same_callers}
 
 caller-injective : (c d : Calling) → Path Role (Caller c) (Caller d) → Path Calling c d
 caller-injective c d e = cc

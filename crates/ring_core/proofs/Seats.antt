@@ -1,7 +1,7 @@
 -- What stays of the rule's clauses on views where one view changes.
 use Rattle.std.proofs.Common.{◌≡◌, ◌≢◌, ⊎_elim, ℕ, suc, zero, ◌%◌, ◌<◌, ◌≤◌, List, [], ◌∷◌, ◌++◌, set, length, Option, Some, None, false, refl, sym, ap, ◌∙◌, subst, arith}
 use native.Mathlib.Decide.{ℕ_discrete}
-use mathlib.Core.Option.{some, some-ne-none, some-injective}
+use mathlib.Core.Option.{some, some-ne-none}
 use lib.ListN.{get_elem?}
 use Rattle.ring_core.proofs.Elements.{at_set, set_else}
 use Rattle.playout.specs.declared.call.Call.{Call}
@@ -17,7 +17,8 @@ use Rattle.ring_core.specs.declared.words.SlotWord.{SlotWord}
 use Rattle.ring_core.specs.declared.words.Berth.{Berth}
 use Rattle.ring_core.specs.declared.words.Berth.TheVariants.{Fresh, Out, Home}
 use Rattle.ring_core.specs.Ring.{HasRight, IsCalling, HasLeft, JustOne, NoneMeets, CallerStands, KnownFits, FlightFits}
-use Rattle.playout.proofs.HistoryLaws.{all_accepted-longer}
+use Rattle.ring_core.specs.ListPlaces.{at_one}
+use Rattle.playout.specs.LongerHistory.{all_accepted-longer}
 
 module _ {A : Type 0} where
   pub set_at : (l : List A) (i : ℕ) (a b : A) → get_elem? l i ≡ some a → get_elem? (set l i b) i ≡ some b
@@ -29,9 +30,6 @@ module _ {A : Type 0} where
   at_below [] i a e = absurd (some-ne-none a (sym e))
   at_below (x ∷ xs) zero a e = omega arith
   at_below (x ∷ xs) (suc i) a e = let k = at_below xs i a e in omega arith
-
-  pub at_one : (l : List A) (i : ℕ) (a b : A) → get_elem? l i ≡ some a → get_elem? l i ≡ some b → Path A a b
-  at_one l i a b e f = some-injective a b (sym e ∙ f)
 
 -- two roles say the same of a caller
 pub record Same (who : ℕ) (a b : Role) : Type 0 where

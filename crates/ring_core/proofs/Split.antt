@@ -19,7 +19,8 @@ use Rattle.ring_core.specs.declared.words.Berth.{Berth}
 use Rattle.ring_core.specs.declared.words.Berth.TheVariants.{Fresh, Out, Home}
 use Rattle.ring_core.specs.Ring.{Ring, slot_count, Place, in_slot, in_berth, with_seat, Names, HasRight, IsCalling, HasLeft, NoneMeets, JustOne, CallerStands, RoleFits, RingRule}
 use Rattle.ring_core.specs.Steps.{pool_view, without, only, split_at}
-use Rattle.ring_core.proofs.Seats.{at_one, Same, stands_kept}
+use Rattle.ring_core.specs.ListPlaces.{at_one}
+use Rattle.ring_core.proofs.Seats.{Same, stands_kept}
 
 module _ {A : Type 0} where
   pub at_end : (l : List A) (a b : A) (j : ℕ) → get_elem? (l ++ a ∷ []) j ≡ some b → (get_elem? l j ≡ some b) ⊎ ((j ≡ length l) × (a ≡ b))

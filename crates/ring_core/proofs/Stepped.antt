@@ -1,5 +1,5 @@
 -- A step that changes nothing puts back the view that it took.
-use Rattle.std.proofs.Common.{◌≡◌, ◌≢◌, ℕ, zero, suc, List, [], ◌∷◌, ◌++◌, ◌+◌, ◌<◌, set, get_or, take, length, Option, Some, None, is_some, Bool, true, false, true≢false, cond, refl, sym, ap, ◌∙◌, arith}
+use Rattle.std.proofs.Common.{◌≡◌, ◌≢◌, ℕ, zero, suc, List, [], ◌∷◌, ◌++◌, ◌+◌, set, get_or, Option, Some, None, is_some, Bool, true, false, true≢false, cond, refl, sym, ap, ◌∙◌, arith}
 use Rattle.std.specs.Prelude.{slice_get}
 use mathlib.Core.Option as maybe
 use lib.ListN.{get_elem?}
@@ -19,8 +19,7 @@ use Rattle.ring_core.specs.Ring.{Ring}
 use Rattle.ring_core.specs.Steps.{free_word, leave_at, note_at, note_view, spent_view}
 use Rattle.playout.specs.Machine.{start}
 use Rattle.ring_core.specs.Opening.{slots_from, berths_from}
-use Rattle.ring_core.specs.declared.event.CoreEvent.{CoreEvent}
-use Rattle.ring_core.specs.Core.{on_ground, no_lists, has_right, enlist_berth, enlist_right, enlist_role, leave_role, split_right, split_role, role_at, view_role, happens, run}
+use Rattle.ring_core.specs.Core.{on_ground, no_lists, has_right, enlist_berth, enlist_right, enlist_role, leave_role, split_right, split_role, role_at, view_role}
 use Rattle.ring_core.specs.CoreState.{Sees}
 
 module _ {A : Type 0} where
@@ -189,12 +188,3 @@ berths_next i (suc n) = ap (λ (l : List Berth). Fresh i ∷ l) (berths_next (su
 
 pub berths_more : (i n : ℕ) → berths_from i (n + 1) ≡ berths_from i n ++ Fresh (i + n) ∷ []
 berths_more i n = ap (berths_from i) (let up : n + 1 ≡ suc n = omega arith in up) ∙ berths_next i n
-
--- one event more
-run_next : (k : Shape) (s : Ring) (es : List CoreEvent) (i : ℕ) (e : CoreEvent) → i < length es → e ≡ get_or es i e → run k s (take (suc i) es) ≡ happens k (run k s (take i es)) e
-run_next k s [] i e below is = absurd (omega arith)
-run_next k s (x ∷ es) zero e below is = ap (happens k s) (sym is)
-run_next k s (x ∷ es) (suc i) e below is = run_next k (happens k s x) es i e (omega arith) is
-
-pub run_more : (k : Shape) (s : Ring) (es : List CoreEvent) (i : ℕ) (e : CoreEvent) → i < length es → e ≡ get_or es i e → run k s (take (i + 1) es) ≡ happens k (run k s (take i es)) e
-run_more k s es i e below is = ap (λ (n : ℕ). run k s (take n es)) (let up : i + 1 ≡ suc i = omega arith in up) ∙ run_next k s es i e below is

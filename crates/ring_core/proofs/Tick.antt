@@ -4,9 +4,8 @@ use native.Mathlib.Nat.{add-mod_right}
 use mathlib.Core.Option.{some}
 use lib.ListN.{get_elem?}
 use Rattle.std.specs.FinMap as map
-use Rattle.ring_core.proofs.Elements.{at_set, one_turn}
+use Rattle.ring_core.proofs.Elements.{at_set}
 use Rattle.frame_codec.specs.declared.item.Item.{Item}
-use Rattle.playout.specs.declared.call.Call.{Call}
 use Rattle.playout.specs.declared.call.Call.TheVariants.{TickCall}
 use Rattle.ring_core.specs.declared.views.Shape.{Shape}
 use Rattle.ring_core.specs.declared.views.Calling.{Calling}
@@ -14,17 +13,19 @@ use Rattle.ring_core.specs.declared.views.Role.{Role}
 use Rattle.ring_core.specs.declared.views.Role.TheVariants.{Caller, Spent}
 use Rattle.ring_core.specs.declared.views.View.{View}
 use Rattle.playout.specs.Machine.{start, Machine, opening_machine, after, item_of}
-use Rattle.playout.specs.History.{Entry, entry, after_all, calls_of, calls, ticks}
+use Rattle.playout.specs.History.{Entry, entry, after_all, calls, ticks}
 use Rattle.ring_core.specs.declared.words.SlotWord.{SlotWord}
 use Rattle.ring_core.specs.declared.words.Cell.{Cell}
 use Rattle.ring_core.specs.declared.words.Cell.TheVariants.{AtHome, OutWith}
 use Rattle.ring_core.specs.Ring.{Ring, slot_count, SlotFits, RoleFits, RingRule, word_of}
 use Rattle.ring_core.specs.Steps.{caller_view, position_of, taken, ticked, free_word, tick_at}
-use Rattle.playout.proofs.HistoryLaws.{after_all-snoc, legal-snoc, callers-snoc, ticks-snoc, calls-snoc, player_ticks, all_accepted-longer}
-use Rattle.playout.proofs.FilingLaws.{get-remove_else, window_holds}
-use Rattle.ring_core.proofs.Seats.{at_one, flight_kept}
+use Rattle.ring_core.specs.ListPlaces.{at_one}
+use Rattle.ring_core.specs.RuleLaws.{slots_positive, player_position, tick_number}
+use Rattle.playout.specs.LongerHistory.{after_all-snoc, legal-snoc, callers-snoc, ticks-snoc, calls-snoc, all_accepted-longer}
+use Rattle.playout.specs.FrameLaws.{get-remove_else, window_holds}
+use Rattle.ring_core.proofs.Seats.{flight_kept}
 use Rattle.ring_core.proofs.Cells as cells
-use Rattle.ring_core.proofs.Kept.{slots_positive, callers_after, list_is, role_kept}
+use Rattle.ring_core.proofs.Kept.{callers_after, role_kept}
 
 home-injective : (x y : Option (List ℕ)) → Path Cell (AtHome x) (AtHome y) → Path (Option (List ℕ)) x y
 home-injective x y e = cc
@@ -71,14 +72,10 @@ module _ (k : Shape) (s : Ring) (rule : RingRule k s) (id : ℕ) (c : Calling) (
   t = tick_at k s id c w y z
 
   pub here : p ≡ m.position
-  here = ap (λ (l : List Call). start + ticks l) (list_is k s rule id c at ∙ ap (λ (q : ℕ). calls_of q rule.history) player) ∙ (ap (λ (q : ℕ). start + q) (player_ticks k.filers rule.history rule.callers) ∙ sym rule.position)
+  here = player_position k s rule id c at player
 
-  pub number : w.number ≡ p
-  number =
-      let fits = rule.slot i w found in
-      let a : ℕ = w.number in let q : ℕ = m.position in
-      let lo : q ≤ a = fits.reached in let hi : a < q + R = fits.near in let e : p ≡ q = here in
-      sym (one_turn p a R (omega arith) (omega arith) (sym fits.congruent))
+  number : w.number ≡ p
+  number = tick_number k s rule id c w at player found
 
   pub said : item ≡ item_of (map.get m.frames m.position)
   said = item_found R m s.cells i w y (rule.slot i w found) (number ∙ here) holds

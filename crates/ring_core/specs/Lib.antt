@@ -6,3 +6,8 @@ pub mod Found
 pub mod CoreState
 pub mod CoreInside
 pub mod RingLaws
+pub mod RunLaws
+pub mod ListPlaces
+pub mod RuleLaws
+pub mod OpeningLaws
+pub mod HeldLaws

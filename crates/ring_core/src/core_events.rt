@@ -162,8 +162,9 @@ impl CoreState {
         Ok(())
     }
 
-    /// What an event makes of the ring. One that the view of its seat does not allow changes nothing.
-    pub(crate) fn happens(
+    /// Takes one atomic step. One that the view of its seat does not allow changes nothing. Where memory is wanting,
+    /// nothing is said of the ring that is left.
+    pub fn happens(
         &mut self,
         alloc: Global,
         shape: Shape,

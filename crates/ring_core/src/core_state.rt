@@ -66,8 +66,8 @@ fn opening_berths(alloc: Global, first: u32, callers: u32) -> Result<Vec<Berth>,
 }
 
 impl CoreState {
-    /// The ring at the start.
-    pub(crate) fn opening(alloc: Global, shape: Shape) -> Result<CoreState, OutOfMemory>
+    /// The ring at the start: free slots, fresh berths, and seat 0 with the right to enlist each caller.
+    pub fn opening(alloc: Global, shape: Shape) -> Result<CoreState, OutOfMemory>
         requires filers { shape.filers ≤ 64 }
         requires g { shape.g ≤ 10 }
         ensures { IfOk result (λ s. s ≡ opening_ring shape) }

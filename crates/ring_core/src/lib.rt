@@ -7,7 +7,6 @@ mod core_state;
 mod core_steps;
 mod element;
 mod event;
-mod interleaving;
 mod lists;
 mod pool_steps;
 mod ring_laws;
@@ -17,7 +16,6 @@ mod words;
 pub use core_state::CoreState;
 pub use event::CoreEvent;
 pub use gate_base::OutOfMemory;
-pub use interleaving::core_run;
 pub use lists::{CallList, Gathered, PairList, Rights};
 pub use ring_laws::{
     callers_are_fresh, gathered_are_the_calls, lists_are_the_calls, opening_meets_the_rule,

@@ -1,5 +1,5 @@
 -- The seats of callers over their calls of one step.
-use Rattle.std.proofs.Common.{◌≡◌, ℕ, ◌+◌, ◌%◌, ◌^◌, ◌<◌, ◌≤◌, List, [], ◌∷◌, ◌++◌, Option, Some, None, is_some, Bool, refl, sym, ap, ◌∙◌, subst, arith}
+use Rattle.std.proofs.Common.{◌≡◌, ℕ, ◌+◌, ◌%◌, ◌^◌, ◌<◌, List, [], ◌∷◌, ◌++◌, Option, Some, None, is_some, Bool, refl, sym, ap, ◌∙◌, subst, arith}
 use Rattle.frame_codec.specs.declared.item.Item.{Item}
 use Rattle.frame_codec.specs.declared.item.Item.TheVariants.{Frame}
 use Rattle.playout.specs.declared.call.Call.{Call}
@@ -16,10 +16,10 @@ use Rattle.playout.specs.History.{ticks}
 use Rattle.ring_core.specs.Ring.{Has, slot_count, word_of}
 use Rattle.ring_core.specs.Core.{held_in}
 use Rattle.ring_core.specs.Steps.{caller_view, position_of, ticked, taken, free_word, sourced, based, peeked, told_by, merged}
-use Rattle.playout.proofs.HistoryLaws.{ticks-snoc}
-use Rattle.ring_core.proofs.Core.{held_is}
+use Rattle.playout.specs.LongerHistory.{ticks-snoc}
+use Rattle.ring_core.specs.HeldLaws.{held_is}
 use Rattle.step_table.specs.Packed.{Kept, SeatState, pack_slot, Fits}
-use Rattle.step_table.specs.Kinds.{tick, peek, source, base, learn, told, both_of, IsHeldWord, AfterTick, AfterPeek, AfterSource, AfterBase, MaySwap, MayLoad, MayExchange, MayJoin, source_place, base_place}
+use Rattle.step_table.specs.Kinds.{tick, peek, source, base, learn, told, both_of, IsHeldWord, AfterTick, AfterPeek, AfterSource, AfterBase, MaySwap, MayLoad, MayExchange, source_place, base_place}
 use Rattle.slot_ring.specs.Seen.{who_in, list_in, known_in, TickSays, PeekSays, HeldSays}
 use Rattle.slot_ring.specs.Kept.{IsPlayers, IsFilers, IsNote}
 use Rattle.slot_ring.proofs.Grows.{Went, went}

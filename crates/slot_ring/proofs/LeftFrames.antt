@@ -1,9 +1,8 @@
 -- What a closed ring leaves is one legal history's.
-use Rattle.std.proofs.Common.{◌≡◌, ◌⊎◌, inl, inr, ℕ, suc, zero, ◌+◌, ◌-◌, ◌*◌, ◌%◌, ◌/◌, ◌<◌, ◌≤◌, List, [], ◌∷◌, ◌++◌, map, length, Option, Some, None, Bool, true, false, cond, refl, sym, ap, ◌∙◌, arith, mod-lt}
+use Rattle.std.proofs.Common.{◌≡◌, ◌⊎◌, inl, inr, ℕ, ◌+◌, ◌-◌, ◌*◌, ◌%◌, ◌/◌, ◌<◌, ◌≤◌, List, [], ◌∷◌, ◌++◌, map, length, Option, Some, None, Bool, true, false, cond, refl, sym, ap, ◌∙◌, arith, mod-lt}
 use Rattle.std.specs.Prelude.{slice_get, slice_index, slice_index_or, nat_lt, not, ◌==◌, ◌&&◌}
 use native.Mathlib.Decide.{ℕ_discrete}
 use mathlib.Core.Option.{some}
-use mathlib.Core.Option as maybe
 use lib.ListN.{get_elem?}
 use Rattle.std.proofs.lemmas.Bool.Decides.{nat_tests}
 use Rattle.std.specs.FinMap as finmap
@@ -16,14 +15,15 @@ use Rattle.playout.specs.Machine.{Machine, opening_machine}
 use Rattle.playout.specs.History.{after_all}
 use Rattle.ring_core.specs.Ring.{Ring, slot_count, RingRule}
 use Rattle.ring_core.specs.Steps.{pool_view}
-use Rattle.ring_core.proofs.Kept.{at_exists, slots_positive}
-use Rattle.playout.proofs.FilingLaws.{window_holds}
-use Rattle.playout.proofs.AheadLaws.{turn_apart}
-use Rattle.ring_core.proofs.AllSteps.{all_gathered}
+use Rattle.ring_core.specs.ListPlaces.{at_exists}
+use Rattle.ring_core.specs.RuleLaws.{slots_positive}
+use Rattle.ring_core.specs.RingLaws.{GatheredAreTheCalls}
+use Rattle.playout.specs.FrameLaws.{window_holds}
+use Rattle.playout.specs.Turns.{turn_apart}
 use Rattle.step_table.specs.Packed.{Kept, pack_slot, pack_berth, filled_bit, words_of, Fits}
 use Rattle.step_table.specs.Ends.{ClosedView, Ends}
 use Rattle.slot_ring.specs.Remains.{read_at, frames_left, AllGathered, Ended}
-use Rattle.step_table.proofs.Spelling.{index_front, slot_small}
+use Rattle.step_table.specs.WordLaws.{index_front, slot_small}
 use Rattle.slot_ring.proofs.Listed.{entries_are}
 use Rattle.slot_ring.proofs.Reading.{value_at}
 
@@ -99,8 +99,8 @@ module _ (k : Shape) (s : Ring) (rule : RingRule k s) (words : List ℕ) (cells 
           let differ : (w.number == n) ≡ false = grind (arith, nat_tests) in
           (λ i. cond (differ i && w.filled) (slice_index_or cells w.cell None) None) ∙ sym (outside w e other (finmap.get m.frames n) refl)
 
-pub ended : (k : Shape) (c : ClosedView) (p : Pooling) (lists : List (Option (List Call))) → Ends k c → c.view ≡ pool_view k p → p.lists ≡ lists → AllGathered k.filers lists → Ended k lists (frames_left (slot_count k) c.words c.cells)
-ended k c p lists e is same all =
+pub ended : GatheredAreTheCalls → (k : Shape) (c : ClosedView) (p : Pooling) (lists : List (Option (List Call))) → Ends k c → c.view ≡ pool_view k p → p.lists ≡ lists → AllGathered k.filers lists → Ended k lists (frames_left (slot_count k) c.words c.cells)
+ended gathered k c p lists e is same all =
     let s : Ring = e.0 in let rule = e.1 in let R : ℕ = slot_count k in
     let at : get_elem? s.views e.2.0 ≡ some (pool_view k p) = e.2.1 ∙ ap some is in
     let M : Machine = after_all opening_machine rule.history in
@@ -117,7 +117,7 @@ ended k c p lists e is same all =
       rule.callers,
       (λ who low.
           let h = all who low in
-          h.1 ∙ ap (λ (l : List Call). Some (Some l)) (all_gathered k s rule e.2.0 who p h.0 at low (ap (λ (l : List (Option (List Call))). slice_get l who) same ∙ h.1))),
+          h.1 ∙ ap (λ (l : List Call). Some (Some l)) (gathered k s rule e.2.0 who p h.0 at low (ap (λ (l : List (Option (List Call))). slice_get l who) same ∙ h.1))),
       entries_are M.frames (read_at R c.words c.cells) (n0 - R) (2 * R) (reads k s rule c.words c.cells e.3 e.4)
           (λ n f is.
           let w = window_holds R rule.history rule.legal n f is in

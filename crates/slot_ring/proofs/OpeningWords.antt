@@ -1,6 +1,5 @@
 -- One word more of the opening ring.
-use Rattle.std.proofs.Common.{◌≡◌, ℕ, suc, zero, ◌+◌, ◌*◌, List, [], ◌∷◌, ◌++◌, map, sym, ap, ◌∙◌, arith, append_assoc, ◌%◌, ◌^◌, ◌≤◌}
-use Rattle.std.proofs.Math.Nat.{pow-le-pow_right}
+use Rattle.std.proofs.Common.{◌≡◌, ℕ, suc, zero, ◌+◌, List, [], ◌∷◌, ◌++◌, map, sym, ap, ◌∙◌, arith, append_assoc}
 use Rattle.playout.specs.Machine.{start}
 use Rattle.ring_core.specs.Steps.{free_word}
 use Rattle.ring_core.specs.Opening.{slots_from, berths_from}

@@ -4,7 +4,6 @@ use Rattle.std.specs.Prelude.{slice_get, replicate}
 use Rattle.playout.specs.declared.call.Call.{Call}
 use Rattle.ring_core.specs.declared.words.Berth.TheVariants.{Fresh}
 use Rattle.ring_core.specs.declared.views.Shape.{Shape}
-use Rattle.ring_core.specs.declared.views.Known.{Known}
 use Rattle.ring_core.specs.declared.views.Pooling.{Pooling}
 use Rattle.ring_core.specs.declared.views.Calling.{Calling}
 use Rattle.ring_core.specs.declared.views.Departing.{Departing}

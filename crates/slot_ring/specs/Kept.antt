@@ -1,10 +1,9 @@
 -- What passes, blanks, gathers and notes keep between calls, and what one file call comes to.
-use Rattle.std.specs.Prelude.{◌≡◌, ℕ, ◌+◌, ◌%◌, ◌<◌, ◌≤◌, List, [], ◌∷◌, Option, None, nat_lt, if◌then◌else◌}
+use Rattle.std.specs.Prelude.{◌≡◌, ℕ, ◌<◌, List, [], ◌∷◌, None, nat_lt, if◌then◌else◌}
 use Rattle.playout.specs.declared.call.Call.TheVariants.{FileCall}
 use Rattle.playout.specs.declared.reply.FileReply.{FileReply}
-use Rattle.playout.specs.declared.reply.FileReply.TheVariants.{Accepted, Duplicate, Late, Beyond}
+use Rattle.playout.specs.declared.reply.FileReply.TheVariants.{Duplicate, Late}
 use Rattle.ring_core.specs.declared.words.SlotWord.{SlotWord}
-use Rattle.ring_core.specs.declared.views.Shape.{Shape}
 use Rattle.ring_core.specs.declared.views.Known.{Known}
 use Rattle.ring_core.specs.declared.views.Calling.{Calling}
 use Rattle.ring_core.specs.declared.views.Pooling.{Pooling}

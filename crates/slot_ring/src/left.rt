@@ -6,6 +6,7 @@ use crate::gather::Gather;
 use crate::ring::{SlotRing, slots_in, turn_place};
 use crate::words::{FILLED, NUMBERS, cell_of};
 use frame_codec::Frame33;
+use ring_core::gathered_are_the_calls;
 use std::marker::Model;
 use std::snapshot::Snapshot;
 use step_table::Closed;
@@ -34,6 +35,8 @@ impl SlotRing {
         ensures lists { result.lists ≡ gather.lists }
         ensures history { Ended self.shape gather.lists result.frames }
     {
+        // A law: the call runs nothing, and gives what the proof needs.
+        gathered_are_the_calls();
         let lists = Snapshot::of(&gather);
         let Gather { seat } = gather;
         let SlotRing {

@@ -4,8 +4,7 @@ ghost use Rattle.slot_ring.specs.Seen.{position_in};
 
 use super::*;
 use frame_codec::{Frame33, Item, frame_of};
-use playout::{Call, FileReply, FilerSide, PlayerSide};
-use ring_core::{CoreEvent, core_run};
+use playout::{FileReply, FilerSide, PlayerSide};
 use std::alloc::Global;
 use std::marker::Brand;
 use std::sync::ledger;
@@ -150,56 +149,6 @@ fn two_filers_share_a_slot(rt: HostRuntime) -> Result<(), Fail> {
     assert!(rt; left.len() == 1);
     assert_eq!(rt; left.get(0), Some((START + 1, w)));
     assert_eq!(rt; left.get(1), None);
-    Ok(())
-}
-
-// The same steps on the ring as plain data.
-#[test]
-fn two_filers_as_plain_data(rt: HostRuntime) -> Result<(), Fail> {
-    let (z, w) = (frame_of(&Z)?, frame_of(&W)?);
-    let load = |seat, number, frame| CoreEvent::Load {
-        seat,
-        number,
-        frame,
-    };
-    let events = [
-        CoreEvent::Split { seat: 0, right: 0 },
-        CoreEvent::Split { seat: 0, right: 1 },
-        CoreEvent::Split { seat: 0, right: 2 },
-        CoreEvent::Enlist { seat: 1, berth: 0 },
-        CoreEvent::Enlist { seat: 2, berth: 1 },
-        CoreEvent::Enlist { seat: 3, berth: 2 },
-        load(1, START, z),
-        CoreEvent::Publish { seat: 1 },
-        CoreEvent::Split { seat: 1, right: 0 },
-        CoreEvent::Learn { seat: 3, note: 4 },
-        load(2, START, w),
-        load(2, START + 4, w),
-        CoreEvent::Tick { seat: 3 },
-        load(2, START, w),
-        load(2, START + 1, w),
-        CoreEvent::Publish { seat: 2 },
-    ];
-    let events = events.to_vec(rt.alloc())?;
-    let state = core_run(rt.alloc(), 2, 2, &events)?;
-    let filed = |number, frame, reply| Call::FileCall {
-        number,
-        frame,
-        reply,
-    };
-    let first = [filed(START, z, FileReply::Accepted)];
-    let second = [
-        filed(START, w, FileReply::Duplicate),
-        filed(START + 4, w, FileReply::Beyond { ahead: 4294967296 }),
-        filed(START, w, FileReply::Late { ahead: 4294967300 }),
-        filed(START + 1, w, FileReply::Accepted),
-    ];
-    let played = [Call::TickCall {
-        item: Item::Frame(z),
-    }];
-    assert!(rt; state.calls(0) == first.as_slice());
-    assert!(rt; state.calls(1) == second.as_slice());
-    assert!(rt; state.calls(2) == played.as_slice());
     Ok(())
 }
 

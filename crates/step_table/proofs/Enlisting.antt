@@ -16,20 +16,20 @@ use Rattle.ring_core.specs.Ring.{Ring, slot_count, Place, in_berth, StandsIn, Ri
 use Rattle.ring_core.specs.declared.words.Berth.TheVariants.{Fresh, Out}
 use Rattle.ring_core.specs.declared.words.Cell.TheVariants.{AtHome, OutWith}
 use Rattle.ring_core.specs.Steps.{pool_view, caller_view, newcomer, enlist_at}
-use Rattle.ring_core.proofs.Kept.{at_exists}
-use Rattle.ring_core.proofs.Enlist.{right_is_fresh, was}
-use Rattle.ring_core.proofs.AllSteps.{all_steps}
+use Rattle.ring_core.specs.ListPlaces.{at_exists}
+use Rattle.ring_core.specs.RuleLaws.{right_is_fresh, fresh_place}
+use Rattle.ring_core.specs.RingLaws.{AllStepsKeepTheRule}
 use Rattle.step_table.specs.Packed.{Kept, SeatState, pack_slot, pack_berth, home_of, Holds, HeldFit}
 use Rattle.step_table.specs.Kinds.{enlist, MaySwap, told}
 use Rattle.step_table.proofs.Spelling.{index_middle, set_middle}
 use Rattle.step_table.proofs.Ticking.{T, spelt, Goes}
 
-goes : (k : Shape) (s : Ring) (rule : RingRule k s) (keep : HeldFit s) (id : ℕ) (p : Pooling) (who : ℕ) → get_elem? s.views id ≡ some (pool_view k p) → slice_get p.rights who ≡ Some true → ((n : ℕ) (l : List Call) → slice_get p.lists n ≡ Some (Some l) → ⊥) → who ≤ k.filers
+goes : AllStepsKeepTheRule → (k : Shape) (s : Ring) (rule : RingRule k s) (keep : HeldFit s) (id : ℕ) (p : Pooling) (who : ℕ) → get_elem? s.views id ≡ some (pool_view k p) → slice_get p.rights who ≡ Some true → ((n : ℕ) (l : List Call) → slice_get p.lists n ≡ Some (Some l) → ⊥) → who ≤ k.filers
     → Goes k (spelt s) id (pool_view k p, []) (length (map pack_slot s.slots) + who) (pack_berth Out) (told (enlist who) (pool_view k p, []))
-goes k s rule keep id p who at has empty low =
+goes steps k s rule keep id p who at has empty low =
     let f = right_is_fresh k s rule id p who at has low in
     let cell : ℕ = f.0 in
-    let place = was k s rule id p who cell at has empty f.1 in
+    let place = fresh_place k s rule who cell f.1 in
     let there = at_exists s.cells cell place.1 in
     let st : StandsIn (in_berth who) there.0 = subst (λ (q : Place). StandsIn q there.0) place.0 (rule.named cell there.0 there.1).1 in
     let y : Kept = st.0 in
@@ -43,17 +43,17 @@ goes k s rule keep id p who at has empty low =
       (
         enlist_at k s id who cell,
         (set_middle pack_berth (map pack_slot s.slots) s.berths rest who (Fresh cell) Out f.1, sym (map-set home_of s.cells cell (OutWith id)), refl),
-        (all_steps k s rule).enlist id who cell p at has empty f.1,
+        (steps k s rule).enlist id who cell p at has empty f.1,
         keep,
       ),
       (cell, y, index_middle pack_berth (map pack_slot s.slots) s.berths rest who (Fresh cell) f.1, omega arith, refl),
     )
 
-pub enlist_allowed : (k : Shape) (slots id : ℕ) (me : SeatState) (word new who : ℕ) → MaySwap (enlist who) k me word new → Allows (Holds k) slots id me word (λ _. new) (told (enlist who) me)
-enlist_allowed k slots id me word new who may t holds wide at small =
+pub enlist_allowed : AllStepsKeepTheRule → (k : Shape) (slots id : ℕ) (me : SeatState) (word new who : ℕ) → MaySwap (enlist who) k me word new → Allows (Holds k) slots id me word (λ _. new) (told (enlist who) me)
+enlist_allowed steps k slots id me word new who may t holds wide at small =
     let p : Pooling = may.0 in let s : Ring = holds.0 in let sp = holds.1 in
     let place : length (map pack_slot s.slots) + who ≡ slot_count k + who = ap (λ (n : ℕ). n + who) (length-map s.slots pack_slot ∙ holds.2.sized.slots) in
     let same : (spelt s, (pool_view k p, []), length (map pack_slot s.slots) + who, pack_berth Out) ≡ (t, me, word, new) =
     λ i. (record { words = sym sp.0 i; homes = sym sp.1 i; views = sym sp.2 i }, sym may.1 i, (place ∙ sym may.5) i, sym may.6 i) in
     let here : get_elem? s.views id ≡ some (pool_view k p) = ap (λ (l : List View). get_elem? l id) (sym sp.2) ∙ at ∙ ap (λ (m : SeatState). some m.0) may.1 in
-    subst (λ (q : T × SeatState × ℕ × ℕ). Goes k q.0 id q.1 q.2 q.3 (told (enlist who) q.1)) same (goes k s holds.2 holds.3 id p who here may.2 may.3 may.4)
+    subst (λ (q : T × SeatState × ℕ × ℕ). Goes k q.0 id q.1 q.2 q.3 (told (enlist who) q.1)) same (goes steps k s holds.2 holds.3 id p who here may.2 may.3 may.4)

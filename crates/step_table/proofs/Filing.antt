@@ -18,14 +18,14 @@ use Rattle.ring_core.specs.Ring.{Ring, slot_count, FlightFits, RingRule}
 use Rattle.ring_core.specs.declared.words.SlotWord.{SlotWord}
 use Rattle.ring_core.specs.declared.words.Cell.TheVariants.{AtHome, OutWith}
 use Rattle.ring_core.specs.Steps.{caller_view, free_word, full_word, loaded, published, publish_at, view_at}
-use Rattle.ring_core.proofs.Seats.{at_one}
-use Rattle.ring_core.proofs.Kept.{at_exists, slots_positive}
-use Rattle.ring_core.proofs.Cells as cells
-use Rattle.ring_core.proofs.AllSteps.{all_steps}
+use Rattle.ring_core.specs.ListPlaces.{at_exists, at_one}
+use Rattle.ring_core.specs.RuleLaws.{slots_positive, spare_apart}
+use Rattle.ring_core.specs.RingLaws.{AllStepsKeepTheRule, CallersAreFresh, SlotsAreNear}
 use Rattle.step_table.proofs.Telling.{tells_of}
 use Rattle.step_table.specs.Packed.{Kept, SeatState, pack_slot, filled_bit, pack_berth, words_of, home_of, Holds, HeldFit, Fits}
 use Rattle.step_table.specs.Kinds.{load, publish, MayLoad, MayExchange, AfterLoad, AfterPublish, told, WordTells}
-use Rattle.step_table.proofs.Spelling.{word_stays, index_front, set_front, slot_value, slot_small}
+use Rattle.step_table.specs.WordLaws.{index_front, slot_small}
+use Rattle.step_table.proofs.Spelling.{word_stays, set_front, slot_value}
 use Rattle.step_table.proofs.Ticking.{T, spelt, Goes, caller-injective}
 
 bit_by : (a b : Bool) (c d n o : ℕ) → n < 281474976710656 → o < 281474976710656 → c < 32768 → d < 32768 → filled_bit a + c * 281474976710656 + n ≡ filled_bit b + d * 281474976710656 + o → Path Bool a b × (c ≡ d) × (n ≡ o)
@@ -40,30 +40,30 @@ pack-injective w x fw fx e =
     let same = bit_by w.filled x.filled w.cell x.cell w.number x.number fw.0 fx.0 fw.1 fx.1 e in
     λ i. record { number = same.2 i; filled = same.0 i; cell = same.1 i }
 
-load_goes : (k : Shape) (s : Ring) (rule : RingRule k s) (keep : HeldFit s) (id : ℕ) (c : Calling) (held : List (ℕ × Kept)) (n : ℕ) (f : List ℕ) → get_elem? s.views id ≡ some (caller_view k c) → c.who < k.filers
+load_goes : AllStepsKeepTheRule → CallersAreFresh → SlotsAreNear → (k : Shape) (s : Ring) (rule : RingRule k s) (keep : HeldFit s) (id : ℕ) (c : Calling) (held : List (ℕ × Kept)) (n : ℕ) (f : List ℕ) → get_elem? s.views id ≡ some (caller_view k c) → c.who < k.filers
     → Goes k (spelt s) id (caller_view k c, held) (n % slot_count k) (slice_index (words_of s) (n % slot_count k)) (told (load n f) (caller_view k c, held))
-load_goes k s rule keep id c held n f at filer =
+load_goes steps fresh bounded k s rule keep id c held n f at filer =
     let R : ℕ = slot_count k in let i : ℕ = n % R in
     let len : ℕ = length s.slots in let wide : len ≡ R = rule.sized.slots in let near : i < R = mod-lt n (slots_positive k) in
     let there = at_exists s.slots i (omega arith) in
     let w : SlotWord = there.0 in
     let u : View = caller_view k (loaded c w n f) in
-    let tells : AfterLoad k c n f held (slice_index (words_of s) i) (u, held) = (w, index_front pack_slot s.slots (map pack_berth s.berths ++ s.source ∷ s.base ∷ []) i w there.1, slot_small k s rule i w there.1, refl, tells_of k s rule id c n w at there.1) in (
+    let tells : AfterLoad k c n f held (slice_index (words_of s) i) (u, held) = (w, index_front pack_slot s.slots (map pack_berth s.berths ++ s.source ∷ s.base ∷ []) i w there.1, slot_small k s rule i w there.1, refl, tells_of fresh bounded k s rule id c n w at there.1) in (
       u,
       keeps,
       tt,
-      (view_at k s id (loaded c w n f), (word_stays s i w there.1, refl, refl), (all_steps k s rule).load id n c w f at filer there.1, keep),
+      (view_at k s id (loaded c w n f), (word_stays s i w there.1, refl, refl), (steps k s rule).load id n c w f at filer there.1, keep),
       λ d same. subst (λ (e : Calling). AfterLoad k e n f held (slice_index (words_of s) i) (u, held)) (caller-injective c d same) tells,
     )
 
-pub load_allowed : (k : Shape) (slots id : ℕ) (me : SeatState) (word n : ℕ) (f : List ℕ) → MayLoad (load n f) k me word → Allows (Holds k) slots id me word (λ x. x) (told (load n f) me)
-load_allowed k slots id me word n f may t holds wide at small =
+pub load_allowed : AllStepsKeepTheRule → CallersAreFresh → SlotsAreNear → (k : Shape) (slots id : ℕ) (me : SeatState) (word n : ℕ) (f : List ℕ) → MayLoad (load n f) k me word → Allows (Holds k) slots id me word (λ x. x) (told (load n f) me)
+load_allowed steps fresh bounded k slots id me word n f may t holds wide at small =
     let c : Calling = may.0 in let held : List (ℕ × Kept) = may.1 in let s : Ring = holds.0 in let sp = holds.1 in
     let mine : SeatState = (caller_view k c, held) in
     let i : ℕ = n % slot_count k in
     let same : (spelt s, mine, i) ≡ (t, me, word) = λ i. (record { words = sym sp.0 i; homes = sym sp.1 i; views = sym sp.2 i }, sym may.2 i, sym may.5 i) in
     let here : get_elem? s.views id ≡ some (caller_view k c) = ap (λ (l : List View). get_elem? l id) (sym sp.2) ∙ at ∙ ap (λ (m : SeatState). some m.0) may.2 in
-    subst (λ (q : T × SeatState × ℕ). Goes k q.0 id q.1 q.2 (slice_index q.0.words q.2) (told (load n f) q.1)) same (load_goes k s holds.2 holds.3 id c held n f here may.3)
+    subst (λ (q : T × SeatState × ℕ). Goes k q.0 id q.1 q.2 (slice_index q.0.words q.2) (told (load n f) q.1)) same (load_goes steps fresh bounded k s holds.2 holds.3 id c held n f here may.3)
 
 flight_word : (R : ℕ) (slots : List SlotWord) (f : Flight) (w : SlotWord) → FlightFits R slots (Some f) → get_elem? slots (f.number % R) ≡ some w → (f.number ≤ w.number) × (w.number ≡ f.number → w.filled ≡ false → w.cell ≡ f.cell)
 flight_word R slots f w fits at = subst (λ (x : SlotWord). (f.number ≤ x.number) × (x.number ≡ f.number → x.filled ≡ false → x.cell ≡ f.cell)) (at_one slots (f.number % R) fits.0 w fits.1 at) (fits.2, fits.3)
@@ -72,11 +72,11 @@ flight_word R slots f w fits at = subst (λ (x : SlotWord). (f.number ≤ x.numb
 free_is : (w : SlotWord) (f : Flight) → w.number ≡ f.number → w.filled ≡ false → w.cell ≡ f.cell → Path SlotWord w (free_word f.number f.cell)
 free_is w f a b c = λ i. record { number = a i; filled = b i; cell = c i }
 
-publish_goes : (k : Shape) (s : Ring) (rule : RingRule k s) (keep : HeldFit s) (id : ℕ) (c : Calling) (f : Flight) → get_elem? s.views id ≡ some (caller_view k c) → c.who < k.filers → c.flight ≡ Some f → Fits (free_word f.number f.cell)
+publish_goes : AllStepsKeepTheRule → CallersAreFresh → SlotsAreNear → (k : Shape) (s : Ring) (rule : RingRule k s) (keep : HeldFit s) (id : ℕ) (c : Calling) (f : Flight) → get_elem? s.views id ≡ some (caller_view k c) → c.who < k.filers → c.flight ≡ Some f → Fits (free_word f.number f.cell)
     → (old new : ℕ) → old ≡ pack_slot (free_word f.number f.cell) → new ≡ pack_slot (full_word f.number c.spare)
     → Goes k (spelt s) id (caller_view k c, (c.spare, Some f.frame) ∷ []) (f.number % slot_count k) (either (eqb (slice_index (words_of s) (f.number % slot_count k)) old) new (slice_index (words_of s) (f.number % slot_count k)))
     (told publish (caller_view k c, (c.spare, Some f.frame) ∷ []))
-publish_goes k s rule keep id c f at filer flying small old new was more =
+publish_goes steps fresh bounded k s rule keep id c f at filer flying small old new was more =
     let R : ℕ = slot_count k in let i : ℕ = f.number % R in
     let len : ℕ = length s.slots in let wide : len ≡ R = rule.sized.slots in let near : i < R = mod-lt f.number (slots_positive k) in
     let there = at_exists s.slots i (omega arith) in
@@ -97,7 +97,7 @@ publish_goes k s rule keep id c f at filer flying small old new was more =
     let y : Kept = value.0 in
     let d : Calling = published c f.number f.frame f.cell in
     let u : View = caller_view k d in
-    let apart : c.spare ≢ f.cell = cells.apart s rule.place i id (free_word f.number f.cell) (full_word f.number c.spare) (caller_view k c) u c d (Some f.frame) found at refl refl refl refl rule.alone rule.named in
+    let apart : c.spare ≢ f.cell = spare_apart k s rule i id (free_word f.number f.cell) c found at in
     let tells : AfterPublish k c f held r (u, (f.cell, y) ∷ []) = inl (hit ∙ was, (y, refl)) in (
       u,
       chain gives (takes f.cell y),
@@ -109,7 +109,7 @@ publish_goes k s rule keep id c f at filer flying small old new was more =
           sym (map-set home_of (set s.cells c.spare (AtHome (Some f.frame))) f.cell (OutWith id) ∙ ap (λ (l : List (maybe.Option Kept)). set l f.cell maybe.none) (map-set home_of s.cells c.spare (AtHome (Some f.frame)))),
           refl,
         ),
-        (all_steps k s rule).publish id c f y at filer found value.1,
+        (steps k s rule).publish id c f y at filer found value.1,
         keep,
       ),
       λ e g is flies. subst (λ (q : Calling × Flight). AfterPublish k q.0 q.1 held r (u, (f.cell, y) ∷ [])) (both c e f g is (sym flying) flies) tells,
@@ -118,11 +118,11 @@ publish_goes k s rule keep id c f at filer flying small old new was more =
     let d : Calling = loaded c w f.number f.frame in
     let u : View = caller_view k d in
     let full : w.number ≡ f.number → w.filled ≡ true = λ e. filled_if w.filled refl (λ free. miss (shows ∙ (ap pack_slot (free_is w f e free (flight.1 e free)) ∙ sym was))) in
-    let tells : AfterPublish k c f held r (u, held) = inr ((λ e. miss (e ∙ sym was)), (w, shows, fits, flight.0, full, refl, tells_of k s rule id c f.number w at there.1)) in (
+    let tells : AfterPublish k c f held r (u, held) = inr ((λ e. miss (e ∙ sym was)), (w, shows, fits, flight.0, full, refl, tells_of fresh bounded k s rule id c f.number w at there.1)) in (
       u,
       keeps,
       tt,
-      (view_at k s id d, (word_stays s i w there.1, refl, refl), (all_steps k s rule).load id f.number c w f.frame at filer there.1, keep),
+      (view_at k s id d, (word_stays s i w there.1, refl, refl), (steps k s rule).load id f.number c w f.frame at filer there.1, keep),
       λ e g is flies. subst (λ (q : Calling × Flight). AfterPublish k q.0 q.1 held r (u, held)) (both c e f g is (sym flying) flies) tells,
     ))
   where
@@ -136,11 +136,11 @@ publish_goes k s rule keep id c f at filer flying small old new was more =
     filled_if true e n = e
     filled_if false e n = absurd (n e)
 
-pub publish_allowed : (k : Shape) (slots id : ℕ) (me : SeatState) (word old new : ℕ) → MayExchange publish k me word old new → Allows (Holds k) slots id me word (λ x. either (eqb x old) new x) (told publish me)
-publish_allowed k slots id me word old new may t holds wide at small =
+pub publish_allowed : AllStepsKeepTheRule → CallersAreFresh → SlotsAreNear → (k : Shape) (slots id : ℕ) (me : SeatState) (word old new : ℕ) → MayExchange publish k me word old new → Allows (Holds k) slots id me word (λ x. either (eqb x old) new x) (told publish me)
+publish_allowed steps fresh bounded k slots id me word old new may t holds wide at small =
     let c : Calling = may.0 in let f : Flight = may.1 in let s : Ring = holds.0 in let sp = holds.1 in
     let mine : SeatState = (caller_view k c, (c.spare, Some f.frame) ∷ []) in
     let i : ℕ = f.number % slot_count k in
     let same : (spelt s, mine, i) ≡ (t, me, word) = λ i. (record { words = sym sp.0 i; homes = sym sp.1 i; views = sym sp.2 i }, sym may.2 i, sym may.6 i) in
     let here : get_elem? s.views id ≡ some (caller_view k c) = ap (λ (l : List View). get_elem? l id) (sym sp.2) ∙ at ∙ ap (λ (m : SeatState). some m.0) may.2 in
-    subst (λ (q : T × SeatState × ℕ). Goes k q.0 id q.1 q.2 (either (eqb (slice_index q.0.words q.2) old) new (slice_index q.0.words q.2)) (told publish q.1)) same (publish_goes k s holds.2 holds.3 id c f here may.3 may.4 may.5 old new may.7 may.8)
+    subst (λ (q : T × SeatState × ℕ). Goes k q.0 id q.1 q.2 (either (eqb (slice_index q.0.words q.2) old) new (slice_index q.0.words q.2)) (told publish q.1)) same (publish_goes steps fresh bounded k s holds.2 holds.3 id c f here may.3 may.4 may.5 old new may.7 may.8)

@@ -3,7 +3,7 @@ use Rattle.std.proofs.Common.{◌≡◌, ℕ, ◌+◌, ◌%◌, ◌^◌, ◌<◌
 use Rattle.ring_core.specs.declared.views.Shape.{Shape}
 use Rattle.ring_core.specs.Ring.{slot_count}
 use Rattle.ring_core.specs.Steps.{position_of}
-use Rattle.ring_core.proofs.Kept.{slots_positive}
+use Rattle.ring_core.specs.RuleLaws.{slots_positive}
 use Rattle.step_table.specs.Packed.{SeatState}
 use Rattle.step_table.specs.Kinds.{StepKind, enlist, load, publish, tick, leave, source, base, peek, source_place, base_place, MaySwap, MayLoad, MayExchange}
 

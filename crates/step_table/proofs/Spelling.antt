@@ -1,28 +1,20 @@
 -- Reading and writing the words of a ring.
-use Rattle.std.proofs.Common.{◌≡◌, ℕ, suc, zero, ◌+◌, ◌^◌, ◌<◌, ◌≤◌, List, [], ◌∷◌, ◌++◌, map, set, length, refl, sym, ap, ◌∙◌, subst, arith}
+use Rattle.std.proofs.Common.{◌≡◌, ℕ, suc, zero, ◌+◌, ◌^◌, List, [], ◌∷◌, ◌++◌, map, set, length, refl, sym, ap, ◌∙◌, subst, arith}
 use Rattle.std.specs.Prelude.{slice_index}
-use mathlib.Core.Option.{some, some-ne-none, some-injective}
+use mathlib.Core.Option.{some, some-ne-none}
 use lib.ListN.{get_elem?}
-use Rattle.std.proofs.Math.Nat.{pow-le-pow_right}
 use Rattle.ring_core.specs.declared.views.Shape.{Shape}
-use Rattle.playout.specs.Machine.{opening_machine}
-use Rattle.playout.specs.History.{after_all}
 use Rattle.ring_core.specs.Ring.{Ring, RingRule, Place, in_slot, StandsIn}
 use Rattle.ring_core.specs.declared.words.SlotWord.{SlotWord}
 use Rattle.ring_core.specs.declared.words.Cell.TheVariants.{AtHome}
-use Rattle.step_table.specs.Packed.{Kept, Fits, pack_slot, pack_berth, words_of}
+use Rattle.step_table.specs.Packed.{Kept, pack_slot, pack_berth, words_of}
 use Rattle.std.proofs.lemmas.List.{length-map}
 use Rattle.atomic_table.proofs.Lists.{set_again}
-use Rattle.ring_core.proofs.Kept.{at_exists}
+use Rattle.ring_core.specs.ListPlaces.{at_exists}
+use Rattle.step_table.specs.WordLaws.{index_front}
 use Rattle.step_table.specs.Kinds.{source_place, base_place}
-use Rattle.ring_core.specs.declared.words.Berth.{Berth}
 
 module _ {A : Type 0} (f : A → ℕ) where
-  pub index_front : (xs : List A) (ys : List ℕ) (i : ℕ) (a : A) → get_elem? xs i ≡ some a → slice_index (map f xs ++ ys) i ≡ f a
-  index_front [] ys i a e = absurd (some-ne-none a (sym e))
-  index_front (x ∷ xs) ys zero a e = ap f (some-injective x a e)
-  index_front (x ∷ xs) ys (suc i) a e = index_front xs ys i a e
-
   pub set_front : (xs : List A) (ys : List ℕ) (i : ℕ) (a b : A) → get_elem? xs i ≡ some a → set (map f xs ++ ys) i (f b) ≡ map f (set xs i b) ++ ys
   set_front [] ys i a b e = absurd (some-ne-none a (sym e))
   set_front (x ∷ xs) ys zero a b e = refl
@@ -44,18 +36,6 @@ slot_value k s r i w e =
     let x = at_exists s.cells w.cell p.1 in
     let st : StandsIn (in_slot i) x.0 = subst (λ (q : Place). StandsIn q x.0) p.0 (r.named w.cell x.0 x.1).1 in
     (st.0, x.1 ∙ ap some st.1)
-
--- the word of a slot is within its bits
-pub slot_small : (k : Shape) (s : Ring) (r : RingRule k s) (i : ℕ) (w : SlotWord) → get_elem? s.slots i ≡ some w → Fits w
-slot_small k s r i w e =
-    let p = r.alone (in_slot i) w.cell (w, e, refl) in
-    let fits = r.slot i w e in
-    let m : ℕ = (after_all opening_machine r.history).position in
-    let n : ℕ = w.number in let c : ℕ = w.cell in let len : ℕ = length s.cells in let R : ℕ = 2 ^ k.g in
-    let near : n < m + R = fits.near in let bound : m ≤ 2 ^ 33 = r.bound in
-    let total : len ≡ R + k.filers + 1 = r.sized.cells in let f : k.filers ≤ 64 = r.sized.filers in
-    let small : R ≤ 2 ^ 10 = pow-le-pow_right {n = 2} (omega arith) r.sized.g in let below : c < len = p.1 in
-    (omega arith, omega arith)
 
 -- the word of a slot stays where what was read is written
 pub word_stays : (s : Ring) (i : ℕ) (w : SlotWord) → get_elem? s.slots i ≡ some w → set (words_of s) i (slice_index (words_of s) i) ≡ words_of s

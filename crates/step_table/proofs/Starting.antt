@@ -11,11 +11,12 @@ use Rattle.ring_core.specs.declared.words.Cell.TheVariants.{AtHome}
 use Rattle.playout.specs.Machine.{start}
 use Rattle.ring_core.specs.Ring.{Ring, slot_count}
 use Rattle.ring_core.specs.Steps.{free_word}
-use Rattle.ring_core.specs.Opening.{opening_ring, slots_from, berths_from}
+use Rattle.ring_core.specs.Opening.{opening_ring, berths_from}
 use Rattle.std.proofs.Math.Pow.{pow-lt}
-use Rattle.ring_core.proofs.Opening.{length-slots, length-berths}
+use Rattle.ring_core.specs.OpeningLaws.{length-slots, length-berths, slot_there}
 use Rattle.step_table.specs.Packed.{Kept, words_of, home_of, pack_slot, pack_berth, IsOpening}
-use Rattle.step_table.proofs.Spelling.{index_front, index_middle}
+use Rattle.step_table.specs.WordLaws.{index_front}
+use Rattle.step_table.proofs.Spelling.{index_middle}
 
 abbrev pub no_frame : Kept
 no_frame = None
@@ -32,11 +33,6 @@ length-words k =
     let c = length-map s.slots pack_slot in let d = length-map s.berths pack_berth in
     let e = length-slots 0 (slot_count k) in let f = length-berths (slot_count k) (k.filers + 1) in
     omega arith
-
-slot_there : (i n j : ℕ) → j < n → get_elem? (slots_from i n) j ≡ maybe.some (free_word (start + (i + j)) (i + j))
-slot_there i zero j low = absurd (omega arith)
-slot_there i (suc n) zero low = ap (λ (x : ℕ). maybe.some (free_word (start + x) x)) (let h : i ≡ i + 0 = omega arith in h)
-slot_there i (suc n) (suc j) low = slot_there (suc i) n j (omega arith) ∙ ap (λ (x : ℕ). maybe.some (free_word (start + x) x)) (let h : suc i + j ≡ i + suc j = omega arith in h)
 
 -- the words of slots are at least 2 ^ 32
 pub slot_high : (k : Shape) (j : ℕ) → j < slot_count k → 4294967296 ≤ slice_index (words_of (opening_ring k)) j

@@ -8,7 +8,7 @@ use Rattle.ring_core.specs.declared.words.SlotWord.{SlotWord}
 use Rattle.ring_core.specs.declared.words.Cell.TheVariants.{AtHome}
 use Rattle.ring_core.specs.Ring.{Ring, RingRule, slot_count}
 use Rattle.ring_core.specs.Steps.{caller_view}
-use Rattle.ring_core.proofs.AllSteps.{all_fresh, all_near}
+use Rattle.ring_core.specs.RingLaws.{CallersAreFresh, SlotsAreNear}
 use Rattle.step_table.specs.Kinds.{WordTells}
 
 -- what stands there, or has gone on, is not below, and is filled where it has the number
@@ -18,15 +18,15 @@ not_below a n filled held there = elim there [
   | inr on ↦ (omega (arith, on), λ same. absurd (omega (arith, same, on)))
 ]
 
-pub tells_of : (k : Shape) (s : Ring) (rule : RingRule k s) (id : ℕ) (c : Calling) (n : ℕ) (w : SlotWord) → get_elem? s.views id ≡ some (caller_view k c) → get_elem? s.slots (n % slot_count k) ≡ some w → WordTells k c n w
-tells_of k s rule id c n w at found =
-    let fresh = all_fresh k s rule id c at in
+pub tells_of : CallersAreFresh → SlotsAreNear → (k : Shape) (s : Ring) (rule : RingRule k s) (id : ℕ) (c : Calling) (n : ℕ) (w : SlotWord) → get_elem? s.views id ≡ some (caller_view k c) → get_elem? s.slots (n % slot_count k) ≡ some w → WordTells k c n w
+tells_of fresh near k s rule id c n w at found =
+    let known = fresh k s rule id c at in
     let fits = rule.slot (n % slot_count k) w found in
-    let near = all_near k s rule (n % slot_count k) w found in
+    let bounds = near k s rule (n % slot_count k) w found in
     record {
       congruent = fits.congruent;
-      first = near.0;
-      last = near.1;
-      reached = fresh.reached (n % slot_count k) w found;
-      accepted = λ f has. not_below w.number n (w.filled ≡ true) (get_elem? s.cells w.cell ≡ some (AtHome (Some f))) (fresh.accepted n w f found has);
+      first = bounds.0;
+      last = bounds.1;
+      reached = known.reached (n % slot_count k) w found;
+      accepted = λ f has. not_below w.number n (w.filled ≡ true) (get_elem? s.cells w.cell ≡ some (AtHome (Some f))) (known.accepted n w f found has);
     }

@@ -1,5 +1,5 @@
 -- A tick is a step that the table's rule allows.
-use Rattle.std.proofs.Common.{◌≡◌, ◌≢◌, ℕ, ◌+◌, ◌%◌, ◌^◌, ◌<◌, List, [], ◌∷◌, ◌++◌, map, set, length, Some, None, true, refl, sym, ap, ◌∙◌, subst, arith, mod-lt}
+use Rattle.std.proofs.Common.{◌≡◌, ◌≢◌, ℕ, ◌+◌, ◌%◌, ◌^◌, ◌<◌, List, [], ◌∷◌, ◌++◌, map, set, length, Some, true, refl, sym, ap, ◌∙◌, subst, arith, mod-lt}
 use Rattle.std.specs.Prelude.{slice_index}
 use mathlib.Core.Option.{some}
 use mathlib.Core.Option as maybe
@@ -17,14 +17,13 @@ use Rattle.ring_core.specs.declared.words.SlotWord.{SlotWord}
 use Rattle.ring_core.specs.declared.words.Cell.{Cell}
 use Rattle.ring_core.specs.declared.words.Cell.TheVariants.{AtHome, OutWith}
 use Rattle.ring_core.specs.Steps.{caller_view, position_of, ticked, free_word, tick_at}
-use Rattle.ring_core.proofs.Kept.{at_exists, slots_positive}
-use Rattle.ring_core.proofs.Cells as cells
-use Rattle.ring_core.proofs.Seats.{at_one}
-use Rattle.ring_core.proofs.Tick.{number}
-use Rattle.ring_core.proofs.AllSteps.{all_steps, all_fresh}
+use Rattle.ring_core.specs.ListPlaces.{at_exists, at_one}
+use Rattle.ring_core.specs.RuleLaws.{slots_positive, spare_apart, tick_number}
+use Rattle.ring_core.specs.RingLaws.{AllStepsKeepTheRule, CallersAreFresh}
 use Rattle.step_table.specs.Packed.{Kept, SeatState, pack_slot, pack_berth, words_of, home_of, Holds, HeldFit}
 use Rattle.step_table.specs.Kinds.{tick, MaySwap, AfterTick, told}
-use Rattle.step_table.proofs.Spelling.{index_front, set_front, slot_value, slot_small}
+use Rattle.step_table.specs.WordLaws.{index_front, slot_small}
+use Rattle.step_table.proofs.Spelling.{set_front, slot_value}
 
 abbrev pub T : Type 0
 T = State Kept View
@@ -49,9 +48,9 @@ frame_in s rule i w y there holds full = let f = (rule.slot i w there).filled fu
 abbrev pub at_tick : Shape → Calling → Kept → SeatState
 at_tick k c z = (caller_view k c, (c.spare, z) ∷ [])
 
-goes : (k : Shape) (s : Ring) (rule : RingRule k s) (fits : HeldFit s) (id : ℕ) (c : Calling) (z : Kept) → get_elem? s.views id ≡ some (caller_view k c) → c.who ≡ k.filers → position_of c < 2 ^ 33
+goes : AllStepsKeepTheRule → CallersAreFresh → (k : Shape) (s : Ring) (rule : RingRule k s) (fits : HeldFit s) (id : ℕ) (c : Calling) (z : Kept) → get_elem? s.views id ≡ some (caller_view k c) → c.who ≡ k.filers → position_of c < 2 ^ 33
     → Goes k (spelt s) id (at_tick k c z) (position_of c % slot_count k) (pack_slot (free_word (position_of c + slot_count k) c.spare)) (told tick (at_tick k c z))
-goes k s rule fits id c z at player below =
+goes steps fresh k s rule fits id c z at player below =
     let R : ℕ = slot_count k in let p : ℕ = position_of c in let i : ℕ = p % R in
     let n : ℕ = length s.slots in let wide : n ≡ R = rule.sized.slots in let near : i < R = mod-lt p (slots_positive k) in
     let there = at_exists s.slots i (omega arith) in
@@ -60,8 +59,8 @@ goes k s rule fits id c z at player below =
     let y : Kept = value.0 in
     let word : SlotWord = free_word (p + R) c.spare in
     let u : View = caller_view k (ticked c w y) in
-    let tells : AfterTick k c (slice_index (words_of s) i) (u, (w.cell, y) ∷ []) = (w, y, index_front pack_slot s.slots (map pack_berth s.berths ++ s.source ∷ s.base ∷ []) i w there.1, slot_small k s rule i w there.1, refl, λ f has. (all_fresh k s rule id c at).played w y f player below there.1 value.1 has, number k s rule id c w y None at player below there.1 value.1, λ full. frame_in s rule i w y there.1 value.1 full) in
-    let apart : c.spare ≢ w.cell = cells.apart s rule.place i id w word (caller_view k c) u c (ticked c w y) z there.1 at refl refl refl refl rule.alone rule.named in (
+    let tells : AfterTick k c (slice_index (words_of s) i) (u, (w.cell, y) ∷ []) = (w, y, index_front pack_slot s.slots (map pack_berth s.berths ++ s.source ∷ s.base ∷ []) i w there.1, slot_small k s rule i w there.1, refl, λ f has. (fresh k s rule id c at).played w y f player below there.1 value.1 has, tick_number k s rule id c w at player there.1, λ full. frame_in s rule i w y there.1 value.1 full) in
+    let apart : c.spare ≢ w.cell = spare_apart k s rule i id w c there.1 at in (
       u,
       chain gives (takes w.cell y),
       (tt, set_else (map home_of s.cells) c.spare w.cell (some z) (λ e. apart (sym e)) ∙ at_map home_of s.cells w.cell (AtHome y) value.1),
@@ -72,17 +71,17 @@ goes k s rule fits id c z at player below =
           sym (map-set home_of (set s.cells c.spare (AtHome z)) w.cell (OutWith id) ∙ ap (λ (l : List (maybe.Option Kept)). set l w.cell maybe.none) (map-set home_of s.cells c.spare (AtHome z))),
           refl,
         ),
-        (all_steps k s rule).tick id c w y z at player below there.1 value.1,
+        (steps k s rule).tick id c w y z at player below there.1 value.1,
         fits,
       ),
       λ d same. subst (λ (e : Calling). AfterTick k e (slice_index (words_of s) i) (u, (w.cell, y) ∷ []))
           (caller-injective c d same) tells,
     )
 
-pub tick_allowed : (k : Shape) (slots id : ℕ) (me : SeatState) (word new : ℕ) → MaySwap tick k me word new → Allows (Holds k) slots id me word (λ _. new) (told tick me)
-tick_allowed k slots id me word new may t holds wide at small =
+pub tick_allowed : AllStepsKeepTheRule → CallersAreFresh → (k : Shape) (slots id : ℕ) (me : SeatState) (word new : ℕ) → MaySwap tick k me word new → Allows (Holds k) slots id me word (λ _. new) (told tick me)
+tick_allowed steps fresh k slots id me word new may t holds wide at small =
     let c : Calling = may.0 in let z : Kept = may.1 in let s : Ring = holds.0 in let sp = holds.1 in
     let same : (spelt s, at_tick k c z, position_of c % slot_count k, pack_slot (free_word (position_of c + slot_count k) c.spare)) ≡ (t, me, word, new) =
     λ i. (record { words = sym sp.0 i; homes = sym sp.1 i; views = sym sp.2 i }, sym may.2 i, sym may.5 i, sym may.6 i) in
     let here : get_elem? s.views id ≡ some (caller_view k c) = ap (λ (l : List View). get_elem? l id) (sym sp.2) ∙ at ∙ ap (λ (m : SeatState). some m.0) may.2 in
-    subst (λ (q : T × SeatState × ℕ × ℕ). Goes k q.0 id q.1 q.2 q.3 (told tick q.1)) same (goes k s holds.2 holds.3 id c z here may.3 may.4)
+    subst (λ (q : T × SeatState × ℕ × ℕ). Goes k q.0 id q.1 q.2 q.3 (told tick q.1)) same (goes steps fresh k s holds.2 holds.3 id c z here may.3 may.4)

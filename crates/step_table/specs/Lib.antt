@@ -1,4 +1,5 @@
 pub mod Packed
 pub mod Kinds
+pub mod WordLaws
 pub mod Ends
 pub mod Inside

@@ -13,7 +13,9 @@ use crate::steps::Steps;
 use atomic_table::{Seat, Table};
 use frame_codec::Frame33;
 use gate_base::OutOfMemory;
-use ring_core::{Shape, View};
+use ring_core::{
+    Shape, View, callers_are_fresh, opening_meets_the_rule, slots_are_near, steps_keep_the_rule,
+};
 use std::alloc::Global;
 use std::marker::Model;
 use std::sync::ledger::Ledger;
@@ -54,6 +56,8 @@ impl StepTable {
         ensures shape { IfOk result (λ t. (k : Shape) → IsOpening k words.items cells → t.0.shape ≡ k) }
         ensures seat { IfOk result (λ t. (t.1.table_id ≡ t.0.id) × (t.1.me ≡ (first_view t.0.shape, []))) }
     {
+        // A call of a law runs nothing: it gives what the proof needs. So also below.
+        opening_meets_the_rule();
         let row = words.as_slice();
         let shape = shape_of(row, cells);
         let (table, seat) = Table::vacant(alloc, row, cells as usize, &shape)?;
@@ -73,6 +77,9 @@ impl StepTable {
         ensures told { told M.kind seat.old.me result seat.new.me }
         ensures counted { steps.new ≡ steps.old + 1 }
     {
+        steps_keep_the_rule();
+        callers_are_fresh();
+        slots_are_near();
         steps.count();
         self.table.shared.load::<Told<M>>(seat, word as usize)
     }
@@ -91,6 +98,8 @@ impl StepTable {
         ensures told { told M.kind seat.old.me result seat.new.me }
         ensures counted { steps.new ≡ steps.old + 1 }
     {
+        steps_keep_the_rule();
+        callers_are_fresh();
         steps.count();
         self.table.shared.swap::<Told<M>>(seat, word as usize, new)
     }
@@ -114,6 +123,9 @@ impl StepTable {
         ensures found { MatchResult result (λ x. x ≡ old) (λ x. x ≢ old) }
         ensures counted { steps.new ≡ steps.old + 1 }
     {
+        steps_keep_the_rule();
+        callers_are_fresh();
+        slots_are_near();
         steps.count();
         let found = self
             .table
@@ -141,6 +153,7 @@ impl StepTable {
         ensures new { (result.table_id ≡ seat.old.table_id) × (result.me ≡ (right_of M.kind seat.old.me.0, [])) }
         ensures counted { steps.new ≡ steps.old + 1 }
     {
+        steps_keep_the_rule();
         steps.count();
         self.table.shared.split_seat::<Told<M>>(seat)
     }
@@ -157,6 +170,7 @@ impl StepTable {
         ensures seat { (into.new.table_id ≡ into.old.table_id) × (into.new.id ≡ into.old.id) × (into.new.me ≡ (both_of M.kind into.old.me.0 from.me.0, into.old.me.1)) }
         ensures counted { steps.new ≡ steps.old + 1 }
     {
+        steps_keep_the_rule();
         steps.count();
         self.table.shared.join_seat::<Told<M>>(into, from);
     }

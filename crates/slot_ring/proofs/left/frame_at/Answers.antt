@@ -1,8 +1,7 @@
-use Rattle.std.proofs.Common.{rules, ◌≡◌, ◌≤◌, ℕ, List, None, length, sym, ap, ◌∙◌, subst}
+use Rattle.std.proofs.Common.{rules, ◌≡◌, ◌≤◌, ℕ, None, length, sym, ap, ◌∙◌, subst}
 use Rattle.std.specs.Prelude.{slice_index_or}
 use mathlib.Core.Option.{some}
 use lib.ListN.{get_elem?}
-use Rattle.step_table.specs.Packed.{Kept}
 use Rattle.slot_ring.proofs.Reading.{value_at, beyond, other_number, free_number, full_number}
 use Rattle.slot_ring.proofs.left.frame_at.Goals.{then-word-number-via-then-word-number, then-word-number-via-else-word-number+then-word-lt-FILLED}
 use Rattle.slot_ring.proofs.left.frame_at.Goals as goal

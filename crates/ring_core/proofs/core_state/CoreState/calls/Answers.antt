@@ -4,8 +4,9 @@ use mathlib.Core.Option.{some}
 use lib.ListN.{get_elem?}
 use Rattle.ring_core.specs.declared.views.View.{View}
 use Rattle.ring_core.specs.CoreState.{HasList}
+use Rattle.ring_core.specs.ListPlaces.{at_one}
 use Rattle.ring_core.proofs.Elements.{at_index}
-use Rattle.ring_core.proofs.Seats.{at_one, at_below}
+use Rattle.ring_core.proofs.Seats.{at_below}
 use Rattle.ring_core.proofs.core_state.CoreState.calls.Goals as goal
 
 pub returns-in-Some : goal.returns-in-Some

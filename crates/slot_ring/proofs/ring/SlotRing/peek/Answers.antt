@@ -1,6 +1,6 @@
 use Rattle.std.proofs.Common.{◌≡◌, ◌∙◌, ◌∷◌, [], ◌++◌, ℕ, Some, ap, subst}
 use Rattle.playout.specs.declared.call.Call.TheVariants.{PeekCall}
-use Rattle.slot_ring.specs.Seen.{PassView, position_in, PeekSays}
+use Rattle.slot_ring.specs.Seen.{PassView, PeekSays}
 use Rattle.slot_ring.proofs.Grows.{grown, knows}
 use Rattle.slot_ring.proofs.Callers.{after_peek, position_stays}
 use Rattle.slot_ring.proofs.ring.SlotRing.peek.Goals as goal

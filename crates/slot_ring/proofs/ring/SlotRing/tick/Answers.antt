@@ -1,4 +1,4 @@
-use Rattle.std.proofs.Common.{◌≡◌, ◌∙◌, ◌∷◌, [], ◌++◌, ℕ, ap, subst}
+use Rattle.std.proofs.Common.{◌∙◌, ◌∷◌, [], ◌++◌, ap, subst}
 use Rattle.playout.specs.declared.call.Call.TheVariants.{TickCall}
 use Rattle.slot_ring.specs.Seen.{PassView, position_in, TickSays}
 use Rattle.slot_ring.proofs.Callers.{still_players, after_tick, position_grows}

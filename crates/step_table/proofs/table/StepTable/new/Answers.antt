@@ -5,7 +5,6 @@ use Rattle.atomic_table.specs.Table.{opening}
 use Rattle.ring_core.specs.declared.views.Shape.{Shape}
 use Rattle.ring_core.specs.Ring.{slot_count}
 use Rattle.ring_core.specs.Opening.{opening_ring}
-use Rattle.ring_core.proofs.AllSteps.{all_opens}
 use Rattle.step_table.specs.Packed.{Kept, Holds, first_view, IsOpening}
 use Rattle.step_table.specs.Inside.{IsLaid}
 use Rattle.step_table.proofs.Starting.{no_frame, empty_homes, length-words}
@@ -20,7 +19,7 @@ vacant-requires c =
     subst (λ (x : Shape). Holds x (opening row (replicate c.args.cells no_frame) (first_view x))) (sym is) (
       opening_ring k,
       (same ∙ o.words, ap (λ (n : ℕ). map maybe.some (replicate n no_frame)) o.cells ∙ empty_homes (slot_count k + k.filers + 1), refl),
-      all_opens k o.some_filer o.filers o.g,
+      c.opening_meets_the_rule.ensures k o.some_filer o.filers o.g,
       (omega arith, omega arith),
     )
 

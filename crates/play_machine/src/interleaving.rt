@@ -4,10 +4,8 @@ ghost use Rattle.ring_core.specs.Ring.{RingRule};
 ghost use Rattle.ring_core.specs.Opening.{opening_ring};
 ghost use Rattle.ring_core.specs.Core.{run, NumberFits};
 
-use crate::core_state::CoreState;
-use crate::event::CoreEvent;
-use crate::views::Shape;
 use gate_base::OutOfMemory;
+use ring_core::{CoreEvent, CoreState, Shape, rule_holds};
 use std::alloc::Global;
 
 /// The ring of 1 to 64 filers and 2^g slots after these events, each one atomic step of one seat. Seat 0 is the
@@ -27,6 +25,8 @@ pub fn core_run(
     ensures state { IfOk result (λ s. s ≡ run (record { filers = filers; g = g }) (opening_ring (record { filers = filers; g = g })) events.now.items) }
     ensures rule { IfOk result (RingRule (record { filers = filers; g = g })) }
 {
+    // A law of the ring: the call runs nothing, and proves the clause `rule`.
+    rule_holds();
     let shape = Shape { filers, g };
     let mut state = CoreState::opening(alloc, shape)?;
     for event in events {

@@ -3,9 +3,8 @@ use Rattle.ring_core.specs.declared.views.Shape.{Shape}
 use Rattle.ring_core.specs.Ring.{Ring, RingRule}
 use Rattle.ring_core.specs.Opening.{opening_ring}
 use Rattle.ring_core.specs.Core.{happens}
-use Rattle.ring_core.proofs.Stepped.{run_more}
-use Rattle.ring_core.proofs.Core.{core_keeps}
-use Rattle.ring_core.proofs.interleaving.core_run.Goals as goal
+use Rattle.ring_core.specs.RunLaws.{run_more}
+use Rattle.play_machine.proofs.interleaving.core_run.Goals as goal
 
 pub loop-event-preserved : goal.loop-event-preserved
 loop-event-preserved c =
@@ -15,4 +14,4 @@ loop-event-preserved c =
 pub returns-clause-rule : goal.returns-clause-rule
 returns-clause-rule c =
     let k : Shape = record { filers = c.args.filers; g = c.args.g } in
-    subst (RingRule k) (sym c.loop-event.invariant) (core_keeps k (take c.loop-event.event-index c.deref-event-items.result.now) c.requires.some c.requires.few c.requires.g)
+    subst (RingRule k) (sym c.loop-event.invariant) (c.rule_holds.ensures k (take c.loop-event.event-index c.deref-event-items.result.now) c.requires.some c.requires.few c.requires.g)

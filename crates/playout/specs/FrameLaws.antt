@@ -1,9 +1,9 @@
 -- The frames of the machine: what a change leaves, and the window that they lie in.
-use Rattle.std.proofs.Common.{◌≡◌, ◌≢◌, ℕ, ◌+◌, ◌<◌, ◌≤◌, List, [], ◌∷◌, Option, Some, None, sym, ap, ◌∙◌, arith}
+use Rattle.std.proofs.Common.{◌≡◌, ◌≢◌, ℕ, ◌+◌, ◌<◌, ◌≤◌, eq-eqb, ne_eqb, Bool, true, false, cond, List, [], ◌∷◌, Option, Some, None, refl, sym, ap, ◌∙◌, arith}
 use native.Mathlib.Decide.{ℕ_discrete}
-use Rattle.std.proofs.lemmas.Bool.Decides.{nat_tests}
 use Rattle.std.specs.FinMap as map
-use Rattle.std.specs.FinMap.{gets}
+use Rattle.std.specs.Ordering.{nat_cmp, eq_by_cmp}
+use Rattle.std.specs.Cmp.{nat_cmp_total, unsigned_tied}
 use Rattle.playout.specs.declared.call.Call.{Call}
 use Rattle.playout.specs.declared.call.Call.TheVariants.{FileCall, SourceCall, BaseCall, PeekCall, TickCall}
 use Rattle.playout.specs.declared.reply.FileReply.{FileReply}
@@ -11,17 +11,27 @@ use Rattle.playout.specs.declared.reply.FileReply.TheVariants.{Accepted, Duplica
 use Rattle.playout.specs.Machine.{Frames, Machine, Replies, FileReplies, after, filed, opening_machine}
 use Rattle.playout.specs.History.{Entry, IsLegal, after_all}
 
+tied : (n : ℕ) → eq_by_cmp nat_cmp n n ≡ true
+tied n = unsigned_tied n n ∙ eq-eqb n n refl
+
+untied : (q n : ℕ) → q ≢ n → eq_by_cmp nat_cmp q n ≡ false
+untied q n other = unsigned_tied q n ∙ ne_eqb q n other
+
+-- what was put under a number is there
 pub get-insert_here : (m : Frames) (n : ℕ) (f : List ℕ) → map.get (map.insert m n f) n ≡ Some f
-get-insert_here m n f = grind (arith, gets, nat_tests)
+get-insert_here m n f = map.get-insert nat_cmp_total m n f n ∙ ap (λ (b : Bool). cond b (Some f) (map.get m n)) (tied n)
 
+-- and what is under another number stays
 pub get-insert_else : (m : Frames) (n q : ℕ) (f : List ℕ) → q ≢ n → map.get (map.insert m n f) q ≡ map.get m q
-get-insert_else m n q f other = grind (arith, gets, nat_tests)
+get-insert_else m n q f other = map.get-insert nat_cmp_total m n f q ∙ ap (λ (b : Bool). cond b (Some f) (map.get m q)) (untied q n other)
 
+-- what was taken is there no more
 pub get-remove_here : (m : Frames) (n : ℕ) → map.get (map.remove m n) n ≡ None
-get-remove_here m n = grind (arith, gets, nat_tests)
+get-remove_here m n = map.get-remove nat_cmp_total m n n ∙ ap (λ (b : Bool). cond b None (map.get m n)) (tied n)
 
+-- and what is under another number stays
 pub get-remove_else : (m : Frames) (n q : ℕ) → q ≢ n → map.get (map.remove m n) q ≡ map.get m q
-get-remove_else m n q other = grind (arith, gets, nat_tests)
+get-remove_else m n q other = map.get-remove nat_cmp_total m n q ∙ ap (λ (b : Bool). cond b None (map.get m q)) (untied q n other)
 
 -- the frames lie in the window
 abbrev pub AreInWindow : ℕ → Machine → Type 0
@@ -40,6 +50,7 @@ window-file r m n f Duplicate w a q g e = w q g e
 window-file r m n f (Late x) w a q g e = w q g e
 window-file r m n f (Beyond x) w a q g e = w q g e
 
+-- a call leaves the frames in the window
 pub window-after : (r : ℕ) (m : Machine) (c : Call) → AreInWindow r m → Replies r m c → AreInWindow r (after m c)
 window-after r m (FileCall n f reply) w a q g e = window-file r m n f reply w a q g e
 window-after r m (SourceCall x y) w a q g e = w q g e
@@ -55,8 +66,6 @@ window-all : (r : ℕ) (m : Machine) (h : List Entry) → AreInWindow r m → Is
 window-all r m [] w l = w
 window-all r m (e ∷ h) w l = window-all r (after m e.call) h (window-after r m e.call w l.0) l.1
 
+-- and so does a legal history
 pub window_holds : (r : ℕ) (h : List Entry) → IsLegal r opening_machine h → AreInWindow r (after_all opening_machine h)
-window_holds r h l = window-all r opening_machine h (λ n f e. absurd (none_some (sym (nothing n) ∙ e))) l
-  where
-    nothing : (n : ℕ) → map.get opening_machine.frames n ≡ None
-    nothing n = grind (arith, gets)
+window_holds r h l = window-all r opening_machine h (λ n f e. absurd (none_some (sym (map.get-empty nat_cmp n) ∙ e))) l
