@@ -8,3 +8,4 @@ pub mod Drawn
 pub mod Generator
 pub mod Made
 pub mod Plays
+pub mod Picks

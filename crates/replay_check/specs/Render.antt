@@ -1,8 +1,8 @@
 -- The speech of a player's journal.
-use Rattle.std.specs.Prelude.{ℕ, ◌+◌, ◌≡◌, ◌⊎◌, List, [], ◌∷◌, ◌++◌, length, take, ℤ, true, Option, Some, IfSome}
+use Rattle.std.specs.Prelude.{ℕ, ◌+◌, ◌≡◌, ◌⊎◌, List, [], ◌∷◌, ◌++◌, length, take, ℤ, true, Option, Some, Result, IfSome}
 use Rattle.std.specs.List.{flat_map}
 use Rattle.std.specs.Io.KnownBytes.{Appends, Consumes, Keeps}
-use Rattle.gate_io.specs.Flow.{AppendsPart, ConsumesFewer}
+use Rattle.gate_io.specs.Flow.{AppendsPart, ConsumesFewer, Gives}
 use Rattle.frame_codec.specs.declared.item.Item.{Item}
 use Rattle.frame_codec.specs.declared.item.Item.TheVariants as items
 use Rattle.recorder.specs.declared.events.PlayEvent.{PlayEvent}
@@ -12,7 +12,7 @@ use Rattle.recorder.specs.Heads.{Heading, head_fault, play_magic}
 use Rattle.recorder.specs.Journals.{IsPlayerJournal, PlayerRecord, PlayerRecordFits, opening_behind, player_front}
 use Rattle.recorder.specs.Play.{longest_play, play_event_text, play_fault_at}
 use Rattle.recorder.specs.Tallies.{play_tally}
-use Rattle.substitution.specs.Heard.{IsHeard, sample_octets}
+use Rattle.substitution.specs.Heard.{IsHeard, Sounding, Voices, sample_octets}
 use Rattle.replay_check.specs.declared.rendering.RenderEnd.{RenderEnd}
 use Rattle.replay_check.specs.declared.rendering.RenderEnd.TheVariants.{Done, Refused, ReadFault, WriteFault}
 
@@ -26,6 +26,14 @@ event_items (Frame frame) = items.Frame frame ∷ []
 -- what a journal plays
 abbrev pub items_of : List PlayEvent → List Item
 items_of events = flat_map event_items events
+
+-- a voice has gone on by these items, and this is their speech
+abbrev pub SpeaksOn : Sounding → Sounding → List Item → List ℤ → Type 0
+SpeaksOn old new more speech = (seed : List ℕ) (items : List Item) (samples : List ℤ) → Voices seed items samples old → Voices seed (items ++ more) (samples ++ speech) new
+
+-- the voice played these items, and their speech was given, or a front of it where the give failed
+abbrev pub GivesSpeechOf : {T E : Type 0} → List Item → Sounding → Sounding → Option (List ℕ) → Option (List ℕ) → Result T E → Type 0
+GivesSpeechOf played old new before now result = (speech : List ℤ) × SpeaksOn old new played speech × Gives before now result (sample_octets speech)
 
 -- what follows the events, by how it ended
 abbrev pub Follows : RenderEnd → PlayerRecord → List ℕ → Type 0
@@ -55,6 +63,11 @@ pub record Played (seed front : List ℕ) (end : RenderEnd) (input before now : 
   pub heard : IsHeard seed (items_of j.events) samples
   pub given : HasSpeech end before now (sample_octets samples)
   pub tallied : IsTallied end (items_of j.events)
+
+-- the same of some events, behind a head that was read
+abbrev pub PlayedBehind : List ℕ → RenderEnd → Heading → Option (List ℕ) → Option (List ℕ) → Option (List ℕ) → Type 0
+PlayedBehind seed end h input before now =
+    (j : PlayerRecord) × (samples : List ℤ) × (j.head ≡ h) × Played seed (flat_map play_event_text j.events) end input before now j samples
 
 -- nothing was played: the head has a fault, or was not read
 abbrev pub NothingPlayed : RenderEnd → Option (List ℕ) → Option (List ℕ) → Option (List ℕ) → Type 0

@@ -1,7 +1,7 @@
 // The call that the rule takes next.
-ghost use Rattle.std.specs.Prelude.{ℕ, ◌≡◌, ◌<◌, ◌≤◌, ◌-◌, ◌+◌, ◌^◌, ◌↔◌, List, IsTrue, length, MatchOption};
-ghost use Rattle.playout.specs.declared.call.Call.{Call};
-ghost use Rattle.replay_check.specs.Rule.{Can, CanPeek, IsNext, IsPeek, IsTaken, NoneCan};
+ghost use Rattle.std.specs.Prelude.{◌<◌, ◌≤◌, ◌↔◌, IsTrue, length};
+ghost use Rattle.replay_check.specs.Picks.{FindsNext, FindsPeek, Picks};
+ghost use Rattle.replay_check.specs.Rule.{IsPeek};
 ghost use Rattle.replay_check.specs.Lists.{left_of, list_of};
 
 use crate::recorded::Recorded;
@@ -17,8 +17,7 @@ fn is_peek(call: &Call) -> bool
 fn possible(line: &MapLine, lists: &Recorded<'_>, at: &[usize], who: usize) -> Option<Call>
     requires lists { who ≤ length lists.now.filers }
     requires at { who < length at.now }
-    ensures { MatchOption result (Can (2 ^ line.now.g) line.now.machine (left_of (list_of lists.now) at.now) who → ⊥)
-        (λ call. (rest : List Call) × IsNext (2 ^ line.now.g) line.now.machine (left_of (list_of lists.now) at.now) who call rest) }
+    ensures { FindsNext result line.now (left_of (list_of lists.now) at.now) who }
 {
     match lists.call(who, at[who]) {
         Some(call) => { if line.can(&call) { Some(call) } else { None } }
@@ -30,8 +29,7 @@ fn possible(line: &MapLine, lists: &Recorded<'_>, at: &[usize], who: usize) -> O
 fn possible_peek(line: &MapLine, lists: &Recorded<'_>, at: &[usize], player: usize) -> Option<Call>
     requires lists { player ≤ length lists.now.filers }
     requires at { player < length at.now }
-    ensures { MatchOption result (CanPeek (2 ^ line.now.g) player line.now.machine (left_of (list_of lists.now) at.now) → ⊥)
-        (λ call. (rest : List Call) × IsNext (2 ^ line.now.g) line.now.machine (left_of (list_of lists.now) at.now) player call rest × IsPeek call) }
+    ensures { FindsPeek result line.now (left_of (list_of lists.now) at.now) player }
 {
     match possible(line, lists, at, player) {
         Some(call) => { if is_peek(&call) { Some(call) } else { None } }
@@ -51,9 +49,7 @@ pub struct Choice {
 pub fn pick(line: &MapLine, lists: &Recorded<'_>, at: &[usize], player: usize) -> Option<Choice>
     requires lists { player ≤ length lists.now.filers }
     requires at { player < length at.now }
-    ensures { MatchOption result (NoneCan (2 ^ line.now.g) (player + 1) line.now.machine (left_of (list_of lists.now) at.now))
-        (λ p. IsTaken (2 ^ line.now.g) player line.now.machine (left_of (list_of lists.now) at.now) p.who
-        × ((rest : List Call) × IsNext (2 ^ line.now.g) line.now.machine (left_of (list_of lists.now) at.now) p.who p.call rest)) }
+    ensures { Picks result line.now (left_of (list_of lists.now) at.now) player }
 {
     if let Some(call) = possible_peek(line, lists, at, player) {
         return Some(Choice { who: player, call });

@@ -1,16 +1,11 @@
 // A player's journal becomes the speech that it played.
-ghost use Rattle.std.specs.Prelude.{◌≡◌, ◌≤◌, ◌∷◌, ◌++◌, [], List, ℕ, ℤ, Ok, option_to_list};
-ghost use Rattle.std.specs.List.{flat_map};
+ghost use Rattle.std.specs.Prelude.{◌≡◌, ◌≤◌, ◌∷◌, ◌++◌, [], List, Ok, option_to_list};
 ghost use Rattle.gate_base.specs.Faults.{HasCause, Rose};
-ghost use Rattle.gate_io.specs.Flow.{Gives};
 ghost use Rattle.frame_codec.specs.declared.item.Item.{Item};
-ghost use Rattle.recorder.specs.Heads.{Heading, IsHeading};
-ghost use Rattle.recorder.specs.Journals.{PlayerRecord};
-ghost use Rattle.recorder.specs.Play.{play_event_text};
+ghost use Rattle.recorder.specs.Heads.{IsHeading};
 ghost use Rattle.recorder.specs.Reader.{headed_play};
 ghost use Rattle.recorder.specs.Tallies.{play_tally};
-ghost use Rattle.substitution.specs.Heard.{Voices, sample_octets};
-ghost use Rattle.replay_check.specs.Render.{Completes, Played, Renders, Stops, StopsBehind, event_items};
+ghost use Rattle.replay_check.specs.Render.{Completes, GivesSpeechOf, PlayedBehind, Renders, Stops, StopsBehind, event_items};
 
 use byteorder::{ByteOrder, LittleEndian};
 use frame_codec::Item;
@@ -35,9 +30,7 @@ pub enum RenderEnd {
 
 // Plays an item: 160 samples at 8 kHz become 320 octets, the low octet of each first, in one give.
 fn give_speech<O: Sink>(voice: &mut Voice, item: Item, pcm: &mut O) -> Result<(), Failed>
-    ensures played { (speech : List ℤ)
-        × ((seed : List ℕ) (items : List Item) (samples : List ℤ) → Voices seed items samples voice.old → Voices seed (items ++ item ∷ []) (samples ++ speech) voice.new)
-        × Gives (O.given pcm.old) (O.given pcm.new) result (sample_octets speech) }
+    ensures played { GivesSpeechOf (item ∷ []) voice.old voice.new (O.given pcm.old) (O.given pcm.new) result }
     ensures cause { HasCause (O.faults pcm.old) (O.faults pcm.new) result }
     ensures kin { O.kin pcm.old pcm.new }
 {
@@ -67,9 +60,7 @@ fn play_event<O: Sink>(
     tally: &mut PlayTally,
     pcm: &mut O,
 ) -> Result<(), Failed>
-    ensures played { (speech : List ℤ)
-        × ((seed : List ℕ) (items : List Item) (samples : List ℤ) → Voices seed items samples voice.old → Voices seed (items ++ event_items event.now) (samples ++ speech) voice.new)
-        × Gives (O.given pcm.old) (O.given pcm.new) result (sample_octets speech) }
+    ensures played { GivesSpeechOf (event_items event.now) voice.old voice.new (O.given pcm.old) (O.given pcm.new) result }
     ensures counted { (items : List Item) → tally.old ≡ play_tally items → tally.new ≡ play_tally (items ++ event_items event.now) }
     ensures cause { HasCause (O.faults pcm.old) (O.faults pcm.new) result }
     ensures kin { O.kin pcm.old pcm.new }
@@ -93,7 +84,7 @@ fn play_events<I: Source, O: Sink>(
 ) -> RenderEnd
     requires heading { IsHeading head.now }
     requires read { reader.old ≡ headed_play (Ok head.now) }
-    ensures played { (j : PlayerRecord) × (samples : List ℤ) × (j.head ≡ head.now) × Played seed (flat_map play_event_text j.events) result (I.left journal.old) (O.given pcm.old) (O.given pcm.new) j samples }
+    ensures played { PlayedBehind seed result head.now (I.left journal.old) (O.given pcm.old) (O.given pcm.new) }
     ensures stops { StopsBehind seed result head.now (I.left journal.old) (I.left journal.new) (O.given pcm.old) (O.given pcm.new) }
     ensures later { (I.faults journal.old ≤ I.faults journal.new) × (O.faults pcm.old ≤ O.faults pcm.new) }
     ensures read { result ≡ RenderEnd.ReadFault → Rose (I.faults journal.old) (I.faults journal.new) }
