@@ -3,6 +3,7 @@ pub mod Ending
 pub mod Fan
 pub mod Filing
 pub mod Line
+pub mod Objects
 pub mod Opening
 pub mod Playing
 pub mod Seen

@@ -1,9 +1,8 @@
 // A filer of a line, and its run.
 ghost use Rattle.std.specs.Prelude.{◌≡◌, ◌≤◌, [], true};
 ghost use Rattle.gate_base.specs.Faults.{Rose};
-ghost use Rattle.filer.specs.Turns.{FilerRan, standing};
 ghost use Rattle.line_run.specs.Callers.{CallerRan, Stands};
-ghost use Rattle.line_run.specs.Filing.{Grows};
+ghost use Rattle.line_run.specs.Objects.{FiledOver};
 ghost use Rattle.line_run.specs.Seen.{link_seen, sink_seen};
 
 use crate::plan::Plan;
@@ -34,7 +33,7 @@ pub(crate) fn run_one<R: Wait, P: Link, J: Sink>(
     journal: &mut J,
 )
     requires { Stands plan.now ring.now caller.old }
-    ensures { CallerRan plan.now ring.now (link_seen P.log P.ended P.faults) (sink_seen J.given J.faults) J.kin caller.old link.old journal.old caller.new link.new journal.new }
+    ensures { CallerRan plan.now ring.now (link_seen P.Link) (sink_seen J.Sink) J.kin caller.old link.old journal.old caller.new link.new journal.new }
 {
     if write_filer_head(&plan.head(), caller.number, journal).is_err() {
         caller.end = FilerEnd::JournalFault;
@@ -73,7 +72,7 @@ fn run_over<L: Ledger, R: Wait, P: Link, J: Sink>(
     requires name { blank.name ≡ L.name }
     requires parts { (blank.parts ≡ L.parts) × (blank.parts ≡ 1) }
     ensures pass { (result.0.ring ≡ pass.ring) × (result.0.who ≡ pass.who) }
-    ensures ran { FilerRan Grows (J.faults journal.old) (J.faults journal.new) (standing filer.old [] (P.log link.old) (J.given journal.old)) (standing filer.new result.0.list (P.log link.new) (J.given journal.new)) result.1 }
+    ensures ran { FiledOver P.Link J.Sink filer.old link.old journal.old filer.new link.new journal.new result.0.list result.1 }
     ensures ended { result.1 ≡ FilerEnd.Ended → P.ended link.new ≡ true }
     ensures link_later { P.faults link.old ≤ P.faults link.new }
     ensures link_fault { result.1 ≡ FilerEnd.LinkFault → Rose (P.faults link.old) (P.faults link.new) }

@@ -1,9 +1,9 @@
 // All filers of a line at once, each on a thread of its own.
 ghost use Rattle.std.specs.Prelude.{◌≡◌, ◌<◌, length};
 ghost use Rattle.std.specs.Thread.{IsSend, IsSync};
-ghost use Rattle.line_run.specs.Callers.{CallerRan, Stands};
-ghost use Rattle.line_run.specs.Fan.{AtEach, Each};
-ghost use Rattle.line_run.specs.Seen.{link_seen, sink_seen};
+ghost use Rattle.line_run.specs.Callers.{Stands};
+ghost use Rattle.line_run.specs.Fan.{AtEach};
+ghost use Rattle.line_run.specs.Objects.{FilersRanOver};
 
 use crate::caller::{Caller, run_one};
 use crate::plan::Plan;
@@ -25,7 +25,7 @@ pub(crate) fn fan_out<R: Threads + Wait + Sync, P: Link + Send, J: Sink + Send>(
     requires links { length links.old ≡ length callers.old }
     requires journals { length journals.old ≡ length callers.old }
     requires stand { AtEach (Stands plan.now ring.now) callers.old }
-    ensures { Each (CallerRan plan.now ring.now (link_seen P.log P.ended P.faults) (sink_seen J.given J.faults) J.kin) callers.old links.old journals.old callers.new links.new journals.new }
+    ensures { FilersRanOver P.Link J.Sink plan.now ring.now callers.old links.old journals.old callers.new links.new journals.new }
 {
     let count = callers.len();
     if count == 0 {
@@ -64,16 +64,16 @@ fn both_halves<R: Threads + Wait + Sync, P: Link + Send, J: Sink + Send>(
     requires some { (0 < length a.old) × (0 < length b.old) }
     requires front { (length p.old ≡ length a.old) × (length j.old ≡ length a.old) × AtEach (Stands plan.now ring.now) a.old }
     requires back { (length q.old ≡ length b.old) × (length k.old ≡ length b.old) × AtEach (Stands plan.now ring.now) b.old }
-    ensures front { Each (CallerRan plan.now ring.now (link_seen P.log P.ended P.faults) (sink_seen J.given J.faults) J.kin) a.old p.old j.old a.new p.new j.new }
-    ensures back { Each (CallerRan plan.now ring.now (link_seen P.log P.ended P.faults) (sink_seen J.given J.faults) J.kin) b.old q.old k.old b.new q.new k.new }
+    ensures front { FilersRanOver P.Link J.Sink plan.now ring.now a.old p.old j.old a.new p.new j.new }
+    ensures back { FilersRanOver P.Link J.Sink plan.now ring.now b.old q.old k.old b.new q.new k.new }
 {
     let mut front = ||
         requires { IsSync R.row × IsSend P.row × IsSend J.row × (length p.now ≡ length a.now) × (length j.now ≡ length a.now) × AtEach (Stands plan.now ring.now) a.now }
-        ensures { Each (CallerRan plan.entry.now ring.entry.now (link_seen P.log P.ended P.faults) (sink_seen J.given J.faults) J.kin) a.entry.now p.entry.now j.entry.now a.exit.now p.exit.now j.exit.now }
+        ensures { FilersRanOver P.Link J.Sink plan.entry.now ring.entry.now a.entry.now p.entry.now j.entry.now a.exit.now p.exit.now j.exit.now }
     { fan_out(rt, plan, ring, a, p, j) };
     let mut back = ||
         requires { IsSync R.row × IsSend P.row × IsSend J.row × (length q.now ≡ length b.now) × (length k.now ≡ length b.now) × AtEach (Stands plan.now ring.now) b.now }
-        ensures { Each (CallerRan plan.entry.now ring.entry.now (link_seen P.log P.ended P.faults) (sink_seen J.given J.faults) J.kin) b.entry.now q.entry.now k.entry.now b.exit.now q.exit.now k.exit.now }
+        ensures { FilersRanOver P.Link J.Sink plan.entry.now ring.entry.now b.entry.now q.entry.now k.entry.now b.exit.now q.exit.now k.exit.now }
     { fan_out(rt, plan, ring, b, q, k) };
     join_mut(rt, &mut front, &mut back);
 }

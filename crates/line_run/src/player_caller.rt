@@ -1,8 +1,8 @@
 // The player of a line, and its run.
 ghost use Rattle.std.specs.Prelude.{◌≡◌, ◌≤◌, []};
 ghost use Rattle.gate_base.specs.Faults.{Rose};
-ghost use Rattle.line_run.specs.Callers.{PassPlayed, PlayerRan, PlayerStands};
-ghost use Rattle.line_run.specs.Seen.{clock_seen, link_seen, player_seen, sink_seen, source_seen};
+ghost use Rattle.line_run.specs.Callers.{PlayerStands};
+ghost use Rattle.line_run.specs.Objects.{PlayedOver, PlayerRanOver, ports_at};
 
 use crate::plan::Plan;
 use gate_io::{Link, Sink, Source, TickClock};
@@ -32,7 +32,7 @@ pub(crate) fn run_playing<I: Source, O: Sink, J: Sink, P: Link, C: TickClock>(
     reply: &mut P,
 )
     requires { PlayerStands ring.now caller.old }
-    ensures ran { PlayerRan plan.now ring.now (player_seen (clock_seen C.ticks C.ended clock.old) (sink_seen O.given O.faults speaker.old) (source_seen I.left I.faults microphone.old) (link_seen P.log P.ended P.faults reply.old)) (sink_seen J.given J.faults journal.old) (player_seen (clock_seen C.ticks C.ended clock.new) (sink_seen O.given O.faults speaker.new) (source_seen I.left I.faults microphone.new) (link_seen P.log P.ended P.faults reply.new)) (sink_seen J.given J.faults journal.new) caller.new }
+    ensures ran { PlayerRanOver C.TickClock O.Sink J.Sink I.Source P.Link plan.now ring.now (ports_at clock.old speaker.old journal.old microphone.old reply.old) (ports_at clock.new speaker.new journal.new microphone.new reply.new) caller.new }
     ensures kin { O.kin speaker.old speaker.new }
     ensures journal_kin { J.kin journal.old journal.new }
 {
@@ -76,7 +76,7 @@ fn play_over<L: Ledger, I: Source, O: Sink, J: Sink, P: Link, C: TickClock>(
     requires name { blank.name ≡ L.name }
     requires parts { (blank.parts ≡ L.parts) × (blank.parts ≡ 1) }
     ensures pass { (result.0.ring ≡ pass.ring) × (result.0.who ≡ pass.who) }
-    ensures played { PassPlayed plan.now.options result.0.list (player_seen (clock_seen C.ticks C.ended clock.old) (sink_seen O.given O.faults speaker.old) (source_seen I.left I.faults microphone.old) (link_seen P.log P.ended P.faults reply.old)) (sink_seen J.given J.faults journal.old) (player_seen (clock_seen C.ticks C.ended clock.new) (sink_seen O.given O.faults speaker.new) (source_seen I.left I.faults microphone.new) (link_seen P.log P.ended P.faults reply.new)) (sink_seen J.given J.faults journal.new) result.1 result.2 }
+    ensures played { PlayedOver C.TickClock O.Sink J.Sink I.Source P.Link plan.now.options (ports_at clock.old speaker.old journal.old microphone.old reply.old) (ports_at clock.new speaker.new journal.new microphone.new reply.new) result.0.list result.1 result.2 }
     ensures speaker_later { O.faults speaker.old ≤ O.faults speaker.new }
     ensures speaker_fault { result.1 ≡ PlayerEnd.SpeakerFault → Rose (O.faults speaker.old) (O.faults speaker.new) }
     ensures journal_later { J.faults journal.old ≤ J.faults journal.new }

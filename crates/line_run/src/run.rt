@@ -1,11 +1,9 @@
 // A line from its start to its end.
 ghost use Rattle.std.specs.Prelude.{◌≡◌, ◌+◌, length};
 ghost use Rattle.std.specs.Thread.{IsSend, IsSync};
-ghost use Rattle.line_run.specs.Callers.{AllRan, AreNew, CallerRan, PlayerRan, PlayerStands, Stands};
-ghost use Rattle.line_run.specs.Ending.{AllEnded, NoneRose, PlayerNone};
-ghost use Rattle.line_run.specs.Fan.{AreKin, AtEach, Each};
-ghost use Rattle.line_run.specs.Line.{LineRan};
-ghost use Rattle.line_run.specs.Seen.{clock_seen, link_seen, player_seen, sink_seen, source_seen};
+ghost use Rattle.line_run.specs.Callers.{AreNew, PlayerStands, Stands};
+ghost use Rattle.line_run.specs.Fan.{AreKin, AtEach};
+ghost use Rattle.line_run.specs.Objects.{AllRanOver, EndsUnlessFault, FilersRanOver, PlayerRanOver, RanOver, objects, ports_at};
 
 use crate::caller::Caller;
 use crate::fan::fan_out;
@@ -15,7 +13,6 @@ use crate::line_end::LineEnd;
 use crate::plan::Plan;
 use crate::player_caller::{PlayerCaller, run_playing};
 use gate_io::{Link, Sink, Source, TickClock};
-use player::PlayerEnd;
 use slot_ring::SlotRing;
 use std::sync::Wait;
 use std::thread::{Threads, join_mut};
@@ -45,14 +42,14 @@ fn all_at_once<
     requires many { (length links.old ≡ length callers.old) × (length journals.old ≡ length callers.old) }
     requires filers { AtEach (Stands plan.now ring.now) callers.old }
     requires player { PlayerStands ring.now player.old }
-    ensures filers { Each (CallerRan plan.now ring.now (link_seen P.log P.ended P.faults) (sink_seen J.given J.faults) J.kin) callers.old links.old journals.old callers.new links.new journals.new }
-    ensures player { PlayerRan plan.now ring.now (player_seen (clock_seen C.ticks C.ended clock.old) (sink_seen O.given O.faults speaker.old) (source_seen I.left I.faults microphone.old) (link_seen P.log P.ended P.faults reply.old)) (sink_seen J.given J.faults journal.old) (player_seen (clock_seen C.ticks C.ended clock.new) (sink_seen O.given O.faults speaker.new) (source_seen I.left I.faults microphone.new) (link_seen P.log P.ended P.faults reply.new)) (sink_seen J.given J.faults journal.new) player.new }
+    ensures filers { FilersRanOver P.Link J.Sink plan.now ring.now callers.old links.old journals.old callers.new links.new journals.new }
+    ensures player { PlayerRanOver C.TickClock O.Sink J.Sink I.Source P.Link plan.now ring.now (ports_at clock.old speaker.old journal.old microphone.old reply.old) (ports_at clock.new speaker.new journal.new microphone.new reply.new) player.new }
     ensures kin { O.kin speaker.old speaker.new }
     ensures journal_kin { J.kin journal.old journal.new }
 {
     let mut filers = ||
         requires { IsSync R.row × IsSend P.row × IsSend J.row × (length links.now ≡ length callers.now) × (length journals.now ≡ length callers.now) × AtEach (Stands plan.now ring.now) callers.now }
-        ensures { Each (CallerRan plan.entry.now ring.entry.now (link_seen P.log P.ended P.faults) (sink_seen J.given J.faults) J.kin) callers.entry.now links.entry.now journals.entry.now callers.exit.now links.exit.now journals.exit.now }
+        ensures { FilersRanOver P.Link J.Sink plan.entry.now ring.entry.now callers.entry.now links.entry.now journals.entry.now callers.exit.now links.exit.now journals.exit.now }
     { fan_out(rt, plan, ring, callers, links, journals) };
     join_mut(
         rt,
@@ -88,7 +85,7 @@ fn run_all<
     requires journals { length journals.old.items ≡ 1 + length callers.old.items }
     requires filers { AreNew plan.now ring.now callers.old.items }
     requires player { PlayerStands ring.now player.old }
-    ensures ran { AllRan plan.now ring.now (link_seen P.log P.ended P.faults) (sink_seen J.given J.faults) J.kin callers.old.items links.old.items journals.old.items (player_seen (clock_seen C.ticks C.ended clock.old) (sink_seen O.given O.faults speaker.old) (source_seen I.left I.faults microphone.old) (link_seen P.log P.ended P.faults reply.old)) callers.new.items links.new.items journals.new.items (player_seen (clock_seen C.ticks C.ended clock.new) (sink_seen O.given O.faults speaker.new) (source_seen I.left I.faults microphone.new) (link_seen P.log P.ended P.faults reply.new)) player.new }
+    ensures ran { AllRanOver P.Link I.Source O.Sink J.Sink C.TickClock plan.now ring.now callers.old.items (objects links.old reply.old microphone.old speaker.old journals.old clock.old) callers.new.items (objects links.new reply.new microphone.new speaker.new journals.new clock.new) player.new }
     ensures kin { O.kin speaker.old speaker.new }
 {
     let (first, rest) = journals.as_mut_slice().split_at_mut(1);
@@ -131,12 +128,10 @@ pub fn run_line<
 ) -> LineEnd
     requires links { length links.old.items ≡ line.filers }
     requires journals { length journals.old.items ≡ 1 + line.filers }
-    ensures ran { LineRan line (link_seen P.log P.ended P.faults) (sink_seen J.given J.faults) links.old.items journals.old.items links.new.items journals.new.items (player_seen (clock_seen C.ticks C.ended clock.old) (sink_seen O.given O.faults speaker.old) (source_seen I.left I.faults microphone.old) (link_seen P.log P.ended P.faults reply.old)) (player_seen (clock_seen C.ticks C.ended clock.new) (sink_seen O.given O.faults speaker.new) (source_seen I.left I.faults microphone.new) (link_seen P.log P.ended P.faults reply.new)) result.player result.played result.filers result.left }
+    ensures ran { RanOver P.Link I.Source O.Sink J.Sink C.TickClock line (objects links.old reply.old microphone.old speaker.old journals.old clock.old) (objects links.new reply.new microphone.new speaker.new journals.new clock.new) result }
     ensures kin { O.kin speaker.old speaker.new }
     ensures journals_kin { AreKin J.kin journals.old.items journals.new.items }
-    ensures complete { NoneRose P.faults links.old.items links.new.items → NoneRose J.faults journals.old.items journals.new.items
-        → PlayerNone (player_seen (clock_seen C.ticks C.ended clock.old) (sink_seen O.given O.faults speaker.old) (source_seen I.left I.faults microphone.old) (link_seen P.log P.ended P.faults reply.old)) (player_seen (clock_seen C.ticks C.ended clock.new) (sink_seen O.given O.faults speaker.new) (source_seen I.left I.faults microphone.new) (link_seen P.log P.ended P.faults reply.new))
-        → (result.player ≡ PlayerEnd.Ended) × AllEnded result.filers }
+    ensures complete { EndsUnlessFault P.Link I.Source O.Sink J.Sink C.TickClock (objects links.old reply.old microphone.old speaker.old journals.old clock.old) (objects links.new reply.new microphone.new speaker.new journals.new clock.new) result }
 {
     let Line {
         plan,

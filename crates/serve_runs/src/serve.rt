@@ -1,16 +1,12 @@
 // The command `serve`: the gateway on links.
-ghost use Rattle.std.specs.Prelude.{◌≡◌, ◌≤◌, ◌+◌, ◌⊎◌, ◌↔◌, Some, None, true, false, map, length, IfOk, IfErr, IfSome, IsErrOf};
+ghost use Rattle.std.specs.Prelude.{◌≡◌, ◌≤◌, ◌⊎◌, ◌↔◌, None, true, false, map, IfOk, IfErr, IfSome, IsErrOf};
 ghost use Rattle.std.specs.String.{string_bytes};
-ghost use Rattle.std.specs.Io.KnownBytes.{Appends};
 ghost use Rattle.gate_base.specs.Faults.{Rose};
-ghost use Rattle.command_line.specs.Said.{ServeSaid};
-ghost use Rattle.command_line.specs.Lines.{fits_serve, line_of};
-ghost use Rattle.command_line.specs.declared.line.Line.TheVariants.{Serve};
-ghost use Rattle.line_run.specs.Line.{LineRan};
-ghost use Rattle.line_run.specs.Seen.{clock_seen, link_seen, player_seen, sink_seen, source_seen};
-ghost use Rattle.gate_notes.specs.Exchange.{GainedUnlessFault, SomeRose};
+ghost use Rattle.command_line.specs.Lines.{fits_serve};
 ghost use Rattle.gate_notes.specs.Notes.{usage_line};
-ghost use Rattle.serve_runs.specs.Serve.{StatusFollows, fault_of_ends, line_options, serve_lines};
+ghost use Rattle.line_run.specs.Objects.{objects};
+ghost use Rattle.serve_runs.specs.Running.{DoneUnlessFault, IsLineOf, NotesGained, ServeRan, SomeLinkFailed, SomeSinkFailed, StatusTells, Untouched, fits_over};
+ghost use Rattle.serve_runs.specs.Serve.{line_options, serve_lines};
 
 use crate::serve_end::finish;
 use command_line::{Line, Refusal, ServeOptions, read_line};
@@ -61,8 +57,7 @@ fn line_for(
     links: usize,
     journals: usize,
 ) -> Result<line_run::Line, Status>
-    ensures opened { IfOk result (λ l. (said : ServeSaid) × (line_of (map string_bytes words.now) ≡ Some (Serve said)) × (l.filers ≡ length said.listen) × (l.options ≡ line_options said.options)
-        × (length said.listen ≡ links) × (journals ≡ 1 + links)) }
+    ensures opened { IfOk result (IsLineOf (map string_bytes words.now) links journals) }
     ensures usage { IsErrOf result Status.Usage → fits_serve (map string_bytes words.now) links journals ≡ false }
     ensures fits { IfOk result (λ l. fits_serve (map string_bytes words.now) links journals ≡ true) }
     ensures only { IfErr result (λ s. (s ≡ Status.Usage) ⊎ (s ≡ Status.OutOfMemory)) }
@@ -107,26 +102,19 @@ pub fn run_serve<
     notes: &mut E,
     clock: &mut C,
 ) -> Served
-    ensures usage { result.status ≡ Status.Usage → fits_serve (map string_bytes words.now.items) (length links.old.items) (length journals.old.items) ≡ false }
-    ensures usage_only { fits_serve (map string_bytes words.now.items) (length links.old.items) (length journals.old.items) ≡ false → (result.status ≡ Status.Usage) ⊎ (result.status ≡ Status.OutOfMemory) }
+    ensures usage { result.status ≡ Status.Usage → fits_over words.now links.old journals.old ≡ false }
+    ensures usage_only { fits_over words.now links.old journals.old ≡ false → (result.status ≡ Status.Usage) ⊎ (result.status ≡ Status.OutOfMemory) }
     ensures no_end { (result.end ≡ None) ↔ ((result.status ≡ Status.Usage) ⊎ (result.status ≡ Status.OutOfMemory)) }
-    ensures untouched { result.end ≡ None → (links.new ≡ links.old) × (reply.new ≡ reply.old) × (microphone.new ≡ microphone.old) × (speaker.new ≡ speaker.old) × (journals.new ≡ journals.old) × (clock.new ≡ clock.old) }
-    ensures refused { result.status ≡ Status.Usage → GainedUnlessFault (E.given notes.old) (E.given notes.new) (E.faults notes.old) (E.faults notes.new) usage_line }
+    ensures untouched { result.end ≡ None → Untouched links.old reply.old microphone.old speaker.old journals.old clock.old links.new reply.new microphone.new speaker.new journals.new clock.new }
+    ensures refused { result.status ≡ Status.Usage → NotesGained E.Sink notes.old notes.new usage_line }
     ensures starved { result.status ≡ Status.OutOfMemory → notes.new ≡ notes.old }
-    ensures ran { IfSome result.end (λ e. (said : ServeSaid) × (line_of (map string_bytes words.now.items) ≡ Some (Serve said))
-        × LineRan (record { filers = length said.listen; options = line_options said.options }) (link_seen P.log P.ended P.faults) (sink_seen J.given J.faults) links.old.items journals.old.items links.new.items journals.new.items
-        (player_seen (clock_seen C.ticks C.ended clock.old) (sink_seen O.given O.faults speaker.old) (source_seen I.left I.faults microphone.old) (link_seen P.log P.ended P.faults reply.old))
-        (player_seen (clock_seen C.ticks C.ended clock.new) (sink_seen O.given O.faults speaker.new) (source_seen I.left I.faults microphone.new) (link_seen P.log P.ended P.faults reply.new))
-        e.player e.played e.filers e.left) }
-    ensures status { IfSome result.end (λ e. StatusFollows (fault_of_ends e.player e.filers) result.status (Appends (E.given notes.old) (E.given notes.new) (serve_lines e.played e.filers))) }
-    ensures noted { IfSome result.end (λ e. GainedUnlessFault (E.given notes.old) (E.given notes.new) (E.faults notes.old) (E.faults notes.new) (serve_lines e.played e.filers)) }
+    ensures ran { ServeRan P.Link I.Source O.Sink J.Sink C.TickClock words.now (objects links.old reply.old microphone.old speaker.old journals.old clock.old) (objects links.new reply.new microphone.new speaker.new journals.new clock.new) result.end }
+    ensures status { IfSome result.end (StatusTells E.Sink notes.old notes.new result.status) }
+    ensures noted { IfSome result.end (λ e. NotesGained E.Sink notes.old notes.new (serve_lines e.played e.filers)) }
     ensures read { result.status ≡ Status.ReadFault → Rose (I.faults microphone.old) (I.faults microphone.new) }
-    ensures write { result.status ≡ Status.WriteFault → Rose (O.faults speaker.old) (O.faults speaker.new) ⊎ SomeRose (map J.faults journals.old.items) (map J.faults journals.new.items) ⊎ Rose (E.faults notes.old) (E.faults notes.new) }
-    ensures link { result.status ≡ Status.LinkFault → SomeRose (map P.faults links.old.items) (map P.faults links.new.items) ⊎ Rose (P.faults reply.old) (P.faults reply.new) }
-    ensures complete { fits_serve (map string_bytes words.now.items) (length links.old.items) (length journals.old.items) ≡ true
-        → ¬ (Rose (I.faults microphone.old) (I.faults microphone.new) ⊎ Rose (O.faults speaker.old) (O.faults speaker.new) ⊎ SomeRose (map J.faults journals.old.items) (map J.faults journals.new.items)
-        ⊎ Rose (E.faults notes.old) (E.faults notes.new) ⊎ SomeRose (map P.faults links.old.items) (map P.faults links.new.items) ⊎ Rose (P.faults reply.old) (P.faults reply.new))
-        → (result.status ≡ Status.Done) ⊎ (result.status ≡ Status.OutOfMemory) }
+    ensures write { result.status ≡ Status.WriteFault → SomeSinkFailed O.Sink J.Sink E.Sink speaker.old speaker.new journals.old journals.new notes.old notes.new }
+    ensures link { result.status ≡ Status.LinkFault → SomeLinkFailed P.Link links.old links.new reply.old reply.new }
+    ensures complete { DoneUnlessFault P.Link I.Source O.Sink J.Sink E.Sink words.now (objects links.old reply.old microphone.old speaker.old journals.old clock.old) (objects links.new reply.new microphone.new speaker.new journals.new clock.new) notes.old notes.new result.status }
     ensures later { E.faults notes.old ≤ E.faults notes.new }
     ensures kin { O.kin speaker.old speaker.new × E.kin notes.old notes.new }
 {

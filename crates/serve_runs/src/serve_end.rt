@@ -1,10 +1,9 @@
 // What the ends of a line's callers result in: the status of `serve`, and its notes.
 ghost use Rattle.std.specs.Prelude.{◌≡◌, ◌≤◌, None};
-ghost use Rattle.std.specs.Io.KnownBytes.{Appends};
 ghost use Rattle.gate_base.specs.Faults.{HasCause, Rose};
 ghost use Rattle.gate_io.specs.Flow.{Gives};
-ghost use Rattle.gate_notes.specs.Exchange.{GainedUnlessFault};
-ghost use Rattle.serve_runs.specs.Serve.{StatusFollows, fault_of_ends, filer_fault, link_lines, lowest_fault, player_fault, serve_lines};
+ghost use Rattle.serve_runs.specs.Running.{NotesGained, StatusTells};
+ghost use Rattle.serve_runs.specs.Serve.{fault_of_ends, filer_fault, link_lines, lowest_fault, player_fault, serve_lines};
 
 use gate_io::{Failed, Sink};
 use gate_notes::{Status, give_link, give_plays};
@@ -87,8 +86,8 @@ fn give_end<E: Sink>(end: &LineEnd, notes: &mut E) -> Result<(), Failed>
 
 /// The status of a line that has run, whose notes are given here.
 pub fn finish<E: Sink>(end: &LineEnd, notes: &mut E) -> Status
-    ensures status { StatusFollows (fault_of_ends end.now.player end.now.filers) result (Appends (E.given notes.old) (E.given notes.new) (serve_lines end.now.played end.now.filers)) }
-    ensures noted { GainedUnlessFault (E.given notes.old) (E.given notes.new) (E.faults notes.old) (E.faults notes.new) (serve_lines end.now.played end.now.filers) }
+    ensures status { StatusTells E.Sink notes.old notes.new result end.now }
+    ensures noted { NotesGained E.Sink notes.old notes.new (serve_lines end.now.played end.now.filers) }
     ensures cause { fault_of_ends end.now.player end.now.filers ≡ None → result ≡ Status.WriteFault → Rose (E.faults notes.old) (E.faults notes.new) }
     ensures later { E.faults notes.old ≤ E.faults notes.new }
     ensures kin { E.kin notes.old notes.new }

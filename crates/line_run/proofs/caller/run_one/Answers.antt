@@ -7,7 +7,7 @@ use Rattle.line_run.proofs.caller.run_one.Goals as goal
 pub returns : goal.returns
 returns g c =
     let l = c.args.plan.now in let r = c.requires in let ran = c.run_over-pass in
-    let link = link_seen g.P.Link.log g.P.Link.ended g.P.Link.faults in let sink = sink_seen g.J.Sink.given g.J.Sink.faults in
+    let link = link_seen g.P.Link in let sink = sink_seen g.J.Sink in
     let same : c.in-Some.pass ≡ r.pass = search rules in
     record {
       pass = ran.result.0;

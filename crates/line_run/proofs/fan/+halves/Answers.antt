@@ -29,6 +29,6 @@ fan_out-both_halves-requires-clause-back g t c κs within =
 pub fan_out-returns : goal.fan_out-returns
 fan_out-returns g t c =
     let a = c.split_at_mut-a in let p = c.split_at_mut-p in let j = c.split_at_mut-j in let new = c.both_halves.new in
-    joined (CallerRan c.args.plan.now c.args.ring.now (link_seen g.P.Link.log g.P.Link.ended g.P.Link.faults) (sink_seen g.J.Sink.given g.J.Sink.faults) g.J.Sink.kin)
+    joined (CallerRan c.args.plan.now c.args.ring.now (link_seen g.P.Link) (sink_seen g.J.Sink) g.J.Sink.kin)
     c.args.callers.now a.result.0.now a.result.1.now c.args.links.now p.result.0.now p.result.1.now c.args.journals.now j.result.0.now j.result.1.now
     new.a new.b new.p new.q new.j new.k a.ensures.value p.ensures.value j.ensures.value (search rules) (search rules) c.both_halves.ensures.front c.both_halves.ensures.back

@@ -1,21 +1,20 @@
 use Rattle.std.proofs.Common.{rules, ◌≡◌, refl, ap, ◌∙◌}
 use Rattle.slot_ring.specs.Seen.{PassView}
-use Rattle.line_run.specs.Seen.{clock_seen, link_seen, player_seen, sink_seen, source_seen}
+use Rattle.line_run.specs.Seen.{player_seen, sink_seen}
 use Rattle.line_run.proofs.Sounded.{sounded}
 use Rattle.line_run.proofs.player_caller.run_playing.Goals as goal
 
 pub returns-clause-ran : goal.returns-clause-ran
 returns-clause-ran g c =
     let l = c.args.plan.now in let r = c.requires in let k = c.args in let ran = c.play_over-pass in let e = ran.ensures in let new = ran.new in let head = c.write_play_head in
-    let clock = clock_seen g.C.TickClock.ticks g.C.TickClock.ended in let out = sink_seen g.O.Sink.given g.O.Sink.faults in
-    let mic = source_seen g.I.Source.left g.I.Source.faults in let link = link_seen g.P.Link.log g.P.Link.ended g.P.Link.faults in let sink = sink_seen g.J.Sink.given g.J.Sink.faults in
+    let sink = sink_seen g.J.Sink in
     let same : c.in-Some.pass ≡ r.pass = search rules in
     record {
       pass = ran.result.0;
       has = refl;
       of_ring = e.pass.0 ∙ (ap (λ (x : PassView). x.ring) same ∙ r.of_ring);
       who = e.pass.1 ∙ (ap (λ (x : PassView). x.who) same ∙ r.who);
-      came = sounded l.filers l.options (player_seen (clock k.clock.now) (out k.speaker.now) (mic k.microphone.now) (link k.reply.now)) (player_seen (clock new.clock) (out new.speaker) (mic new.microphone) (link new.reply))
+      came = sounded l.filers l.options (player_seen g.C.TickClock g.O.Sink g.I.Source g.P.Link k.clock.now k.speaker.now k.microphone.now k.reply.now) (player_seen g.C.TickClock g.O.Sink g.I.Source g.P.Link new.clock new.speaker new.microphone new.reply)
           (sink k.journal.now) (sink head.new.sink) (sink new.journal) head.result c.head.result ran.result.0.list ran.result.1 ran.result.2
           head.ensures.given head.ensures.cause (search rules) c.head.ensures e.played (record {
             speaker_later = e.speaker_later;

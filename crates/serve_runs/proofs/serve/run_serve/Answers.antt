@@ -2,7 +2,7 @@ use Rattle.std.proofs.Common.{◌≡◌, ◌⊎◌, inl, inr, ◌+◌, map, leng
 use Rattle.std.specs.Io.KnownBytes.{Appends}
 use Rattle.gate_base.specs.Faults.{Rose}
 use Rattle.line_run.specs.declared.line_end.LineEnd.{LineEnd}
-use Rattle.line_run.specs.Seen.{clock_seen, link_seen, player_seen, sink_seen, source_seen}
+use Rattle.line_run.specs.Seen.{link_seen, player_seen, sink_seen}
 use Rattle.serve_runs.specs.Serve.{serve_lines}
 use Rattle.gate_notes.specs.Exchange.{SomeRose}
 use Rattle.serve_runs.proofs.ServeCauses.{comes, done-alone, link-cause, neither, read-cause, write-cause}
@@ -41,41 +41,41 @@ pub returns-clause-read : goal.returns-clause-read
 returns-clause-read g c = λ is.
     let e = c.run_line-end.result in
     let how = comes e.player e.filers c.finish-status.result (Appends (g.E.Sink.given c.args.notes.now) (g.E.Sink.given c.finish-status.new.notes) (serve_lines e.played e.filers)) c.finish-status.ensures.status in
-    let a = player_seen (clock_seen g.C.TickClock.ticks g.C.TickClock.ended c.args.clock.now) (sink_seen g.O.Sink.given g.O.Sink.faults c.args.speaker.now) (source_seen g.I.Source.left g.I.Source.faults c.args.microphone.now) (link_seen g.P.Link.log g.P.Link.ended g.P.Link.faults c.args.reply.now) in
-    let b = player_seen (clock_seen g.C.TickClock.ticks g.C.TickClock.ended c.run_line-end.new.clock) (sink_seen g.O.Sink.given g.O.Sink.faults c.run_line-end.new.speaker) (source_seen g.I.Source.left g.I.Source.faults c.run_line-end.new.microphone) (link_seen g.P.Link.log g.P.Link.ended g.P.Link.faults c.run_line-end.new.reply) in
+    let a = player_seen g.C.TickClock g.O.Sink g.I.Source g.P.Link c.args.clock.now c.args.speaker.now c.args.microphone.now c.args.reply.now in
+    let b = player_seen g.C.TickClock g.O.Sink g.I.Source g.P.Link c.run_line-end.new.clock c.run_line-end.new.speaker c.run_line-end.new.microphone c.run_line-end.new.reply in
     let opened = c.in-Ok.ensures.opened in
     let many : length c.args.links.now.items ≡ c.in-Ok.line.filers = omega (arith, opened.2, opened.4, c.len.ensures) in
     let more : length c.args.journals.now.items ≡ 1 + c.in-Ok.line.filers = omega (arith, opened.2, opened.4, opened.5, c.len-2.ensures) in
-    read-cause c.in-Ok.line (link_seen g.P.Link.log g.P.Link.ended g.P.Link.faults) (sink_seen g.J.Sink.given g.J.Sink.faults) c.args.links.now.items c.args.journals.now.items c.run_line-end.new.links.items c.run_line-end.new.journals.items a b e.player e.played e.filers e.left c.run_line-end.ensures.ran many more c.finish-status.result how is
+    read-cause c.in-Ok.line (link_seen g.P.Link) (sink_seen g.J.Sink) c.args.links.now.items c.args.journals.now.items c.run_line-end.new.links.items c.run_line-end.new.journals.items a b e.player e.played e.filers e.left c.run_line-end.ensures.ran many more c.finish-status.result how is
 
 pub returns-clause-write : goal.returns-clause-write
 returns-clause-write g c = λ is.
     let e = c.run_line-end.result in
     let how = comes e.player e.filers c.finish-status.result (Appends (g.E.Sink.given c.args.notes.now) (g.E.Sink.given c.finish-status.new.notes) (serve_lines e.played e.filers)) c.finish-status.ensures.status in
-    let a = player_seen (clock_seen g.C.TickClock.ticks g.C.TickClock.ended c.args.clock.now) (sink_seen g.O.Sink.given g.O.Sink.faults c.args.speaker.now) (source_seen g.I.Source.left g.I.Source.faults c.args.microphone.now) (link_seen g.P.Link.log g.P.Link.ended g.P.Link.faults c.args.reply.now) in
-    let b = player_seen (clock_seen g.C.TickClock.ticks g.C.TickClock.ended c.run_line-end.new.clock) (sink_seen g.O.Sink.given g.O.Sink.faults c.run_line-end.new.speaker) (source_seen g.I.Source.left g.I.Source.faults c.run_line-end.new.microphone) (link_seen g.P.Link.log g.P.Link.ended g.P.Link.faults c.run_line-end.new.reply) in
+    let a = player_seen g.C.TickClock g.O.Sink g.I.Source g.P.Link c.args.clock.now c.args.speaker.now c.args.microphone.now c.args.reply.now in
+    let b = player_seen g.C.TickClock g.O.Sink g.I.Source g.P.Link c.run_line-end.new.clock c.run_line-end.new.speaker c.run_line-end.new.microphone c.run_line-end.new.reply in
     let opened = c.in-Ok.ensures.opened in
     let many : length c.args.links.now.items ≡ c.in-Ok.line.filers = omega (arith, opened.2, opened.4, c.len.ensures) in
     let more : length c.args.journals.now.items ≡ 1 + c.in-Ok.line.filers = omega (arith, opened.2, opened.4, opened.5, c.len-2.ensures) in
-    write-cause c.in-Ok.line (link_seen g.P.Link.log g.P.Link.ended g.P.Link.faults) (sink_seen g.J.Sink.given g.J.Sink.faults) c.args.links.now.items c.args.journals.now.items c.run_line-end.new.links.items c.run_line-end.new.journals.items a b e.player e.played e.filers e.left c.run_line-end.ensures.ran many more (Rose (g.E.Sink.faults c.args.notes.now) (g.E.Sink.faults c.finish-status.new.notes)) c.finish-status.result how c.finish-status.ensures.cause is
+    write-cause c.in-Ok.line (link_seen g.P.Link) (sink_seen g.J.Sink) c.args.links.now.items c.args.journals.now.items c.run_line-end.new.links.items c.run_line-end.new.journals.items a b e.player e.played e.filers e.left c.run_line-end.ensures.ran many more (Rose (g.E.Sink.faults c.args.notes.now) (g.E.Sink.faults c.finish-status.new.notes)) c.finish-status.result how c.finish-status.ensures.cause is
 
 pub returns-clause-link : goal.returns-clause-link
 returns-clause-link g c = λ is.
     let e = c.run_line-end.result in
     let how = comes e.player e.filers c.finish-status.result (Appends (g.E.Sink.given c.args.notes.now) (g.E.Sink.given c.finish-status.new.notes) (serve_lines e.played e.filers)) c.finish-status.ensures.status in
-    let a = player_seen (clock_seen g.C.TickClock.ticks g.C.TickClock.ended c.args.clock.now) (sink_seen g.O.Sink.given g.O.Sink.faults c.args.speaker.now) (source_seen g.I.Source.left g.I.Source.faults c.args.microphone.now) (link_seen g.P.Link.log g.P.Link.ended g.P.Link.faults c.args.reply.now) in
-    let b = player_seen (clock_seen g.C.TickClock.ticks g.C.TickClock.ended c.run_line-end.new.clock) (sink_seen g.O.Sink.given g.O.Sink.faults c.run_line-end.new.speaker) (source_seen g.I.Source.left g.I.Source.faults c.run_line-end.new.microphone) (link_seen g.P.Link.log g.P.Link.ended g.P.Link.faults c.run_line-end.new.reply) in
+    let a = player_seen g.C.TickClock g.O.Sink g.I.Source g.P.Link c.args.clock.now c.args.speaker.now c.args.microphone.now c.args.reply.now in
+    let b = player_seen g.C.TickClock g.O.Sink g.I.Source g.P.Link c.run_line-end.new.clock c.run_line-end.new.speaker c.run_line-end.new.microphone c.run_line-end.new.reply in
     let opened = c.in-Ok.ensures.opened in
     let many : length c.args.links.now.items ≡ c.in-Ok.line.filers = omega (arith, opened.2, opened.4, c.len.ensures) in
     let more : length c.args.journals.now.items ≡ 1 + c.in-Ok.line.filers = omega (arith, opened.2, opened.4, opened.5, c.len-2.ensures) in
-    link-cause c.in-Ok.line (link_seen g.P.Link.log g.P.Link.ended g.P.Link.faults) (sink_seen g.J.Sink.given g.J.Sink.faults) c.args.links.now.items c.args.journals.now.items c.run_line-end.new.links.items c.run_line-end.new.journals.items a b e.player e.played e.filers e.left c.run_line-end.ensures.ran many more c.finish-status.result how is
+    link-cause c.in-Ok.line (link_seen g.P.Link) (sink_seen g.J.Sink) c.args.links.now.items c.args.journals.now.items c.run_line-end.new.links.items c.run_line-end.new.journals.items a b e.player e.played e.filers e.left c.run_line-end.ensures.ran many more c.finish-status.result how is
 
 pub returns-clause-complete : goal.returns-clause-complete
 returns-clause-complete g c = λ fits none.
     let e = c.run_line-end.result in
     let how = comes e.player e.filers c.finish-status.result (Appends (g.E.Sink.given c.args.notes.now) (g.E.Sink.given c.finish-status.new.notes) (serve_lines e.played e.filers)) c.finish-status.ensures.status in
-    let a = player_seen (clock_seen g.C.TickClock.ticks g.C.TickClock.ended c.args.clock.now) (sink_seen g.O.Sink.given g.O.Sink.faults c.args.speaker.now) (source_seen g.I.Source.left g.I.Source.faults c.args.microphone.now) (link_seen g.P.Link.log g.P.Link.ended g.P.Link.faults c.args.reply.now) in
-    let b = player_seen (clock_seen g.C.TickClock.ticks g.C.TickClock.ended c.run_line-end.new.clock) (sink_seen g.O.Sink.given g.O.Sink.faults c.run_line-end.new.speaker) (source_seen g.I.Source.left g.I.Source.faults c.run_line-end.new.microphone) (link_seen g.P.Link.log g.P.Link.ended g.P.Link.faults c.run_line-end.new.reply) in
+    let a = player_seen g.C.TickClock g.O.Sink g.I.Source g.P.Link c.args.clock.now c.args.speaker.now c.args.microphone.now c.args.reply.now in
+    let b = player_seen g.C.TickClock g.O.Sink g.I.Source g.P.Link c.run_line-end.new.clock c.run_line-end.new.speaker c.run_line-end.new.microphone c.run_line-end.new.reply in
     let opened = c.in-Ok.ensures.opened in
     let many : length c.args.links.now.items ≡ c.in-Ok.line.filers = omega (arith, opened.2, opened.4, c.len.ensures) in
     let more : length c.args.journals.now.items ≡ 1 + c.in-Ok.line.filers = omega (arith, opened.2, opened.4, opened.5, c.len-2.ensures) in
@@ -83,13 +83,13 @@ returns-clause-complete g c = λ fits none.
     ⊎ SomeRose (map g.J.Sink.faults c.args.journals.now.items) (map g.J.Sink.faults c.run_line-end.new.journals.items) ⊎ Rose (g.E.Sink.faults c.args.notes.now) (g.E.Sink.faults c.finish-status.new.notes)
     ⊎ SomeRose (map g.P.Link.faults c.args.links.now.items) (map g.P.Link.faults c.run_line-end.new.links.items) ⊎ Rose (g.P.Link.faults c.args.reply.now) (g.P.Link.faults c.run_line-end.new.reply) in
     inl (done-alone e.player e.filers c.finish-status.result failed how
-    (λ is. inl (read-cause c.in-Ok.line (link_seen g.P.Link.log g.P.Link.ended g.P.Link.faults) (sink_seen g.J.Sink.given g.J.Sink.faults) c.args.links.now.items c.args.journals.now.items c.run_line-end.new.links.items c.run_line-end.new.journals.items a b e.player e.played e.filers e.left c.run_line-end.ensures.ran many more c.finish-status.result how is))
-    (λ is. elim (write-cause c.in-Ok.line (link_seen g.P.Link.log g.P.Link.ended g.P.Link.faults) (sink_seen g.J.Sink.given g.J.Sink.faults) c.args.links.now.items c.args.journals.now.items c.run_line-end.new.links.items c.run_line-end.new.journals.items a b e.player e.played e.filers e.left c.run_line-end.ensures.ran many more (Rose (g.E.Sink.faults c.args.notes.now) (g.E.Sink.faults c.finish-status.new.notes)) c.finish-status.result how c.finish-status.ensures.cause is) [
+    (λ is. inl (read-cause c.in-Ok.line (link_seen g.P.Link) (sink_seen g.J.Sink) c.args.links.now.items c.args.journals.now.items c.run_line-end.new.links.items c.run_line-end.new.journals.items a b e.player e.played e.filers e.left c.run_line-end.ensures.ran many more c.finish-status.result how is))
+    (λ is. elim (write-cause c.in-Ok.line (link_seen g.P.Link) (sink_seen g.J.Sink) c.args.links.now.items c.args.journals.now.items c.run_line-end.new.links.items c.run_line-end.new.journals.items a b e.player e.played e.filers e.left c.run_line-end.ensures.ran many more (Rose (g.E.Sink.faults c.args.notes.now) (g.E.Sink.faults c.finish-status.new.notes)) c.finish-status.result how c.finish-status.ensures.cause is) [
       | inl h ↦ inr (inl h)
       | inr (inl h) ↦ inr (inr (inl h))
       | inr (inr h) ↦ inr (inr (inr (inl h)))
     ])
-    (λ is. elim (link-cause c.in-Ok.line (link_seen g.P.Link.log g.P.Link.ended g.P.Link.faults) (sink_seen g.J.Sink.given g.J.Sink.faults) c.args.links.now.items c.args.journals.now.items c.run_line-end.new.links.items c.run_line-end.new.journals.items a b e.player e.played e.filers e.left c.run_line-end.ensures.ran many more c.finish-status.result how is) [
+    (λ is. elim (link-cause c.in-Ok.line (link_seen g.P.Link) (sink_seen g.J.Sink) c.args.links.now.items c.args.journals.now.items c.run_line-end.new.links.items c.run_line-end.new.journals.items a b e.player e.played e.filers e.left c.run_line-end.ensures.ran many more c.finish-status.result how is) [
       | inl h ↦ inr (inr (inr (inr (inl h))))
       | inr h ↦ inr (inr (inr (inr (inr h))))
     ])
