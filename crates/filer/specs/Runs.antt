@@ -13,7 +13,7 @@ AreTaken k (d ∷ ds) [] calls after = ⊥
 AreTaken k (d ∷ ds) (o ∷ os) calls after =
     (mid : Known) × (rest : List Call) × IsTaken k d.0 d.1 o mid × (calls ≡ calls_of k d.0 d.1 o ++ rest) × AreTaken mid ds os rest after
 
--- Behind any datagrams that a filer took over its side it has taken this one too, and its calls follow theirs.
+-- After any datagrams that a filer took over its side it has taken this one too, and its calls follow theirs.
 abbrev pub TakesOn : {S : Type 0} → (S → Call → S → Type 0) → Known → Known → S → S → List ℕ → ℕ → Outcome → Type 0
 TakesOn {S} did old new side side_now octets at o =
     (k : Known) (first : S) (ds : List (List ℕ × ℕ)) (os : List Outcome) (cs : List Call) → AreTaken k ds os cs old → Chained did first cs side

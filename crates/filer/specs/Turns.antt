@@ -131,7 +131,7 @@ Stopped did a b ended.JournalFault = (ds : List (List ℕ × ℕ)) × (os : List
 
 -- ---- how a run ends
 
--- the end mark is given, or a front of it where the journal's count rose
+-- the end mark is given, or a prefix of it where the journal's count rose
 abbrev pub Marked : Option (List ℕ) → Option (List ℕ) → ℕ → ℕ → List ℕ → Type 0
 Marked old new before now text = Appends old new (text ++ end_mark ∷ []) ⊎ (Appends old new text × Rose before now)
 

@@ -23,7 +23,7 @@ RendersTo calls samples (Refused f) before now = ⊥
 RendersTo calls samples ReadFault before now = Unit {0}
 RendersTo calls samples WriteFault before now = Unit {0}
 
--- A render whose give failed had read the calls up to this one. It gave all that is heard of those before, and a front of what the last one plays.
+-- A render whose give failed had read the calls up to this one. It gave all that is heard of those before, and a prefix of what the last one plays.
 pub record GivesAllButLast (seed : List ℕ) (h : Heading) (calls : List Call) (left before now : Option (List ℕ)) : Type 0 where
   pub first : List Call
   pub last : Call
@@ -36,7 +36,7 @@ pub record GivesAllButLast (seed : List ℕ) (h : Heading) (calls : List Call) (
   pub plays : IsHeard seed (items_in (first ++ last ∷ [])) (samples ++ speech)
   pub given : (k : ℕ) × Appends before now (sample_octets samples ++ take k (sample_octets speech))
 
--- A render whose read failed gave all that is heard of the calls that it had read, and lost no more than an event behind them.
+-- A render whose read failed gave all that is heard of the calls that it had read, and lost no more than an event after them.
 pub record GivesAllRead (seed : List ℕ) (h : Heading) (calls : List Call) (left before now : Option (List ℕ)) : Type 0 where
   pub first : List Call
   pub more : List Call
@@ -46,7 +46,7 @@ pub record GivesAllRead (seed : List ℕ) (h : Heading) (calls : List Call) (lef
   pub heard : IsHeard seed (items_in first) samples
   pub given : Appends before now (sample_octets samples)
 
--- The journal of the calls, behind this heading, is a player's journal that plays their items, and however it is rendered the output gains these samples.
+-- The journal of the calls, after this heading, is a player's journal that plays their items, and however it is rendered the output gains these samples.
 pub record GivesBack (seed : List ℕ) (h : Heading) (calls : List Call) (samples : List ℤ) : Type 0 where
   pub says : PlayerRecord
   pub journal : IsPlayerJournal (play_text h calls) says
@@ -61,7 +61,7 @@ abbrev pub JournalRenders : Type 0
 JournalRenders = (seed : List ℕ) (h : Heading) (made : ℕ) (calls : List Call) (samples : List ℤ) → IsHeading h → AreBeats made calls → AllByRecursion CanBeTold calls → length calls ≤ event_limit
     → IsHeard seed (items_in calls) samples → GivesBack seed h calls samples
 
--- A player's run that came to its end gave its speaker the octets of these samples, and its journal, behind any heading, gives them back.
+-- A player's run that reached its end gave its speaker the octets of these samples, and its journal, after any heading, gives them back.
 abbrev pub RunRenders : Type 0
 RunRenders = (seed : List ℕ) (own sequence stamp before now made : ℕ) (calls : List Call) (a b : Ports) (h : Heading) → IsHeading h → made ≤ 16000000
     → PlayerGave seed own sequence stamp before now made calls a b Ended

@@ -113,7 +113,7 @@ beaten p found voice stream =
 abbrev pub Speaks : Sounding → Sounding → Item → List ℤ → Type 0
 Speaks old new item played = (seed : List ℕ) (items : List Item) (samples : List ℤ) → Voices seed items samples old → Voices seed (items ++ item ∷ []) (samples ++ played) new
 
--- the speaker has all of the beat, or a front where it failed
+-- the speaker has all of the beat, or a prefix where it failed
 abbrev pub Hears : Beat → Option (List ℕ) → Option (List ℕ) → List ℕ → Type 0
 Hears Played old new octets = Appends old new octets
 Hears SpeakerFault old new octets = AppendsPart old new octets
@@ -121,7 +121,7 @@ Hears JournalFault old new octets = Appends old new octets
 Hears MicFault old new octets = Appends old new octets
 Hears ReplyFault old new octets = Appends old new octets
 
--- the journal has all of it, nothing where the speaker failed, and a front where it failed itself
+-- the journal has all of it, nothing where the speaker failed, and a prefix where it failed itself
 abbrev pub Writes : Beat → Option (List ℕ) → Option (List ℕ) → List ℕ → Type 0
 Writes Played old new text = Appends old new text
 Writes SpeakerFault old new text = new ≡ old
@@ -137,7 +137,7 @@ Replies JournalFault old new left left_now log log_now = (new ≡ old) × (left_
 Replies MicFault old new left left_now log log_now = Returns old new left left_now log log_now ends.MicFault
 Replies ReplyFault old new left left_now log log_now = Returns old new left left_now log log_now ends.ReplyFault
 
--- a beat that came to this end
+-- a beat that reached this end
 pub record Beats {S : Type 0} (did : S → Call → S → Type 0) (a b : Standing S) (end : Beat) : Type 0 where
   pub found : Found
   pub looks : Looks a.player.opened found

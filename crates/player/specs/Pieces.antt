@@ -4,7 +4,7 @@ use Rattle.std.specs.Io.KnownBytes.{Consumes, IsAtEnd}
 use Rattle.gate_io.specs.Flow.{ConsumesFewer}
 use Rattle.substitution.specs.Heard.{sample_octets}
 
--- the octets of a piece: 320, where fewer came zeros behind them
+-- the octets of a piece: 320, where fewer came zeros after them
 abbrev pub whole_piece : List ℕ → List ℕ
 whole_piece octets = octets ++ replicate (320 - length octets) 0
 

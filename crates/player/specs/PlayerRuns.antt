@@ -15,12 +15,12 @@ use Rattle.player.specs.declared.run.PlayerEnd.{PlayerEnd}
 use Rattle.player.specs.declared.run.PlayerEnd.TheVariants as ended
 use Rattle.player.specs.Beats.{Beats, Playing, Standing, standing_of}
 
--- so many beats, one after the other, and nothing failed
+-- this many beats, one after the other, and nothing failed
 abbrev pub PlaysOn : {S : Type 0} → (S → Call → S → Type 0) → ℕ → Standing S → Standing S → Type 0
 PlaysOn {S} did zero a b = a ≡ b
 PlaysOn {S} did (suc n) a b = (m : Standing S) × PlaysOn did n a m × Beats did m b beat.Played
 
--- and then one more, which came to this end
+-- and then one more, which reached this end
 abbrev pub PlaysLast : {S : Type 0} → (S → Call → S → Type 0) → Beat → Standing S → Standing S → Type 0
 PlaysLast {S} did end a b = (m : Standing S) × PlaysOn did m.player.made a m × Beats did m b end
 
@@ -40,7 +40,7 @@ with_written s written = record s { written = written }
 abbrev pub Marked : Option (List ℕ) → Option (List ℕ) → ℕ → ℕ → Type 0
 Marked old new before now = Appends old new (end_mark ∷ []) ⊎ (Appends old new [] × Rose before now)
 
--- behind a fault of another than the journal the end mark was offered
+-- after a fault of another than the journal the end mark was offered
 abbrev pub Offered : {S : Type 0} → (S → Call → S → Type 0) → ℕ → ℕ → Standing S → Standing S → PlayerEnd → Type 0
 Offered {S} did before now a b end = (m : Standing S) × Stopped did a m end × (b ≡ with_written m b.written) × Marked m.written b.written before now
 

@@ -69,7 +69,7 @@ Returns old new left left_now log log_now ReplyFault =
 abbrev pub fields_at : List Fields → ℕ → Fields
 fields_at frames i = get_or frames i (record { larc = []; sub = [] })
 
--- The packets are those of these pieces from the first numbers on, and the stream stands behind them: what each piece spoke is coded with those before it.
+-- The packets are those of these pieces from the first numbers on, and the stream stands after them: what each piece spoke is coded with those before it.
 pub record Streams (own sequence stamp : ℕ) (pieces packets : List (List ℕ)) (s : Stream) : Type 0 where
   pub samples : List ℤ
   pub frames : List Fields
@@ -83,7 +83,7 @@ pub record Streams (own sequence stamp : ℕ) (pieces packets : List (List ℕ))
   pub sequence_is : s.sequence ≡ (sequence + length pieces) % 2 ^ 16
   pub stamp_is : s.stamp ≡ (stamp + 160 * length pieces) % 2 ^ 32
 
--- Behind any pieces and their packets, the piece that was coded and its packet follow them.
+-- After any pieces and their packets, the piece that was coded and its packet follow them.
 abbrev pub StreamsOn : Stream → Stream → Option (List ℕ) → Option (List ℕ) → Type 0
 StreamsOn old new left left_now =
     (own sequence stamp : ℕ) (pieces packets : List (List ℕ)) (octets frame : List ℕ) → Streams own sequence stamp pieces packets old → Codes old new left left_now octets frame

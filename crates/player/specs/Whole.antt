@@ -1,4 +1,4 @@
--- What a player's run comes to, over the list of all its calls.
+-- What a player's run results in, over the list of all its calls.
 use Rattle.std.specs.Prelude.{◌≡◌, ◌⊎◌, ℕ, suc, ◌+◌, ◌-◌, ◌*◌, ◌<◌, ◌≤◌, List, [], ◌∷◌, ◌++◌, length, take, map, replicate, ℤ, Option, Some, None, IfSome}
 use Rattle.std.specs.List.{flat_map, AllByRecursion}
 use Rattle.std.specs.Io.KnownBytes.{Appends, IsAtEnd}
@@ -31,7 +31,7 @@ items_in calls = flat_map call_items calls
 abbrev pub text_in : List Call → List ℕ
 text_in calls = flat_map call_text calls
 
--- The calls of so many beats: each looks for a base in vain; from the one on that sees it each takes an item.
+-- The calls of this many beats: each looks for a base in vain; from the one on that sees it each takes an item.
 abbrev pub AreBeats : ℕ → List Call → Type 0
 AreBeats made calls =
     (calls ≡ replicate made (PeekCall None))
@@ -48,7 +48,7 @@ pub record ButLast (made : ℕ) (calls earlier : List Call) : Type 0 where
 
 -- ---- the speaker
 
--- it has what is heard of all beats, 320 octets each; where it failed, of all but the last, and a front of that one
+-- it has what is heard of all beats, 320 octets each; where it failed, of all but the last, and a prefix of that one
 abbrev pub SpeakerHas : PlayerEnd → ℕ → Option (List ℕ) → Option (List ℕ) → List ℕ → Type 0
 SpeakerHas Ended made old new octets = Appends old new octets
 SpeakerHas SpeakerFault made old new octets = (k : ℕ) × (320 * (made - 1) ≤ k) × Appends old new (take k octets)
@@ -58,7 +58,7 @@ SpeakerHas ReplyFault made old new octets = Appends old new octets
 
 -- ---- the journal
 
--- the text, and behind it the end mark, or nothing of that where the journal's count rose
+-- the text, and after it the end mark, or nothing of that where the journal's count rose
 abbrev pub MarkedBehind : Option (List ℕ) → Option (List ℕ) → ℕ → ℕ → List ℕ → Type 0
 MarkedBehind old new before now text = Appends old new (text ++ end_mark ∷ []) ⊎ (Appends old new text × Rose before now)
 
@@ -76,7 +76,7 @@ Journaled ReplyFault before now made calls old new served = MarkedBehind old new
 
 -- ---- the return stream
 
--- so many beats took these pieces of the microphone, one each until it ended, and these are their packets
+-- this many beats took these pieces of the microphone, one each until it ended, and these are their packets
 pub record Served (own sequence stamp beats : ℕ) (left left_now : Option (List ℕ)) (pieces packets : List (List ℕ)) : Type 0 where
   pub stream : Stream
   pub streams : Streams own sequence stamp pieces packets stream
@@ -92,7 +92,7 @@ Sent packets a b = b ≡ record a { sent = a.sent ++ packets }
 abbrev pub SentOrNot : List (List ℕ) → LinkLog → LinkLog → Type 0
 SentOrNot packets a b = Sent packets a b ⊎ ((earlier : List (List ℕ)) × (last : List ℕ) × (packets ≡ earlier ++ last ∷ []) × Sent earlier a b)
 
--- What the microphone and the reply link did by the end of a run, of which so many beats were answered. A microphone that failed may have lost some octets
+-- What the microphone and the reply link did by the end of a run, of which this many beats were answered. A microphone that failed may have lost some octets
 -- of one more piece; a reply link that failed was given one more packet, and sent it or not.
 abbrev pub Returned : PlayerEnd → ℕ → ℕ → ℕ → ℕ → Option (List ℕ) → Option (List ℕ) → Option LinkLog → Option LinkLog → Type 0
 Returned Ended own sequence stamp served left left_now log log_now =
@@ -117,7 +117,7 @@ pub record Ports : Type 0 where
   pub left : Option (List ℕ)
   pub log : Option LinkLog
 
--- What a run of so many beats with these calls gave, from its first beat on. The journal's count of faults was `before` and is `now`.
+-- What a run of this many beats with these calls gave, from its first beat on. The journal's count of faults was `before` and is `now`.
 pub record PlayerGave (seed : List ℕ) (own sequence stamp before now made : ℕ) (calls : List Call) (a b : Ports) (end : PlayerEnd) : Type 0 where
   pub beats : AreBeats made calls
   pub told : AllByRecursion CanBeTold calls

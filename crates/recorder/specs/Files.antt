@@ -1,9 +1,9 @@
--- What the files have in common: events behind a head, and then the end mark.
+-- What the files have in common: events after a head, and then the end mark.
 use Rattle.std.specs.Prelude.{ℕ, ◌/◌, List, [], ◌∷◌, slice_index, Bool, ◌==◌, nat_le, Option, Some, None, if◌then◌else◌}
 use Rattle.recorder.specs.declared.fault.RecordFault.{RecordFault}
 use Rattle.recorder.specs.declared.fault.RecordFault.TheVariants.{Cut, TooLong}
 
--- the octet behind the last event of a file
+-- the octet after the last event of a file
 abbrev pub end_mark : ℕ
 end_mark = 255
 
@@ -20,7 +20,7 @@ abbrev pub answer_by : {T : Type 0} → (T → List ℕ) → Option T → List �
 answer_by text (Some e) = text e
 answer_by text None = end_mark ∷ []
 
--- The fault that stands at place `at`, after so many events, where these octets are left. Where the octet there is
+-- The fault that stands at place `at`, after this many events, where these octets are left. Where the octet there is
 -- a kind, `behind` says the fault of that kind, its place and what follows it.
 abbrev pub fault_by : (ℕ → ℕ → List ℕ → Option RecordFault) → ℕ → ℕ → List ℕ → Option RecordFault
 fault_by behind count at [] = Some (Cut at)

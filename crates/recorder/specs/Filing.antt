@@ -55,7 +55,7 @@ filer_event_text Rtcp = 39 ∷ []
 filer_event_text (Stranger ssrc held) = 40 ∷ (big_bytes 4 ssrc ++ big_bytes 4 held)
 filer_event_text Empty = 41 ∷ []
 
--- the most octets of an event: a number, a frame and the number that a reply tells, behind the kind
+-- the most octets of an event: a number, a frame and the number that a reply tells, after the kind
 abbrev pub longest_filed : ℕ
 longest_filed = 50
 
@@ -124,7 +124,7 @@ filed_fault from fields rest = judged fields from 0 8 (λ o. nat_lt (big_number 
 abbrev pub ahead_passes : Bool → ℕ → ℕ → Bool
 ahead_passes late number ahead = if late then nat_lt number ahead && nat_lt ahead (2 ^ 48) else nat_lt ahead number
 
--- that number behind the frame
+-- that number after the frame
 abbrev pub ahead_fault : Bool → ℕ → List ℕ → Option RecordFault
 ahead_fault late from fields = judged fields from 41 8 (λ o. ahead_passes late (big_number 8 fields) (big_number 8 o)) None
 
@@ -134,14 +134,14 @@ refused_fault from fields =
     judged fields from 0 1 (λ o. is_code (slice_index o 0))
     (judged fields from 1 2 (λ o. has_detail (slice_index fields 0) || big_number 2 o == 0) None)
 
--- the fault of what a reply tells, behind a number and its frame
+-- the fault of what a reply tells, after a number and its frame
 abbrev pub reply_fault : ℕ → ℕ → List ℕ → Option RecordFault
 reply_fault kind from fields =
     if kind == 36 then ahead_fault true from fields
     else if kind == 37 then ahead_fault false from fields
     else None
 
--- the first fault of the fields behind one of the file's kinds, of which the first octet stands at place from
+-- the first fault of the fields after one of the file's kinds, of which the first octet stands at place from
 abbrev pub filer_field_fault : ℕ → ℕ → List ℕ → Option RecordFault
 filer_field_fault kind from fields =
     if kind == 32 || kind == 33 || kind == 40 then pair_fault from fields
@@ -149,6 +149,6 @@ filer_field_fault kind from fields =
     else if kind == 39 || kind == 41 then None
     else filed_fault from fields (reply_fault kind from fields)
 
--- the fault that stands at place `at`, after so many events, where these octets are left
+-- the fault that stands at place `at`, after this many events, where these octets are left
 abbrev pub filer_fault_at : ℕ → ℕ → List ℕ → Option RecordFault
 filer_fault_at = fault_by (λ kind. judged_behind (filer_width kind) (filer_field_fault kind))

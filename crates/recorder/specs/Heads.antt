@@ -6,7 +6,7 @@ use Rattle.recorder.specs.declared.fault.RecordFault.{RecordFault}
 use Rattle.recorder.specs.declared.fault.RecordFault.TheVariants.{Magic}
 use Rattle.recorder.specs.Fields.{judged}
 
--- what a head says behind its magic: the number of filers, g where the line has 2 ^ g slots, and the delay in frames
+-- what a head says after its magic: the number of filers, g where the line has 2 ^ g slots, and the delay in frames
 pub record Heading : Type 0 where
   pub filers : ℕ
   pub g : ℕ

@@ -42,14 +42,14 @@ pub record IsFilerJournal (octets : List ℕ) (j : FilerRecord) : Type 0 where
   pub fits : FilerRecordFits j
   pub text : (rest : List ℕ) × (octets ≡ filer_text j ++ rest)
 
--- what follows the head and these events has this fault at its front
+-- what follows the head and these events has this fault at its beginning
 pub record FilerFaultAfter (octets : List ℕ) (j : FilerRecord) (f : RecordFault) : Type 0 where
   pub fits : FilerRecordFits j
   pub rest : List ℕ
   pub text : octets ≡ filer_front j ++ rest
   pub fault : filer_fault_at (length j.events) (length (filer_front j)) rest ≡ Some f
 
--- the first fault of octets that are no filer's journal: of the head, or behind some events
+-- the first fault of octets that are no filer's journal: of the head, or after some events
 abbrev pub HasFilerFault : List ℕ → RecordFault → Type 0
 HasFilerFault octets f = (filer_head_fault (take 13 octets) ≡ Some f) ⊎ ((j : FilerRecord) × FilerFaultAfter octets j f)
 
@@ -79,19 +79,19 @@ pub record IsPlayerJournal (octets : List ℕ) (j : PlayerRecord) : Type 0 where
   pub fits : PlayerRecordFits j
   pub text : (rest : List ℕ) × (octets ≡ player_text j ++ rest)
 
--- whether Idle and Base may come behind these events
+-- whether Idle and Base may come after these events
 abbrev pub opening_behind : Bool → List PlayEvent → Bool
 opening_behind opening [] = opening
 opening_behind opening (e ∷ es) = opening_behind (may_open e) es
 
--- what follows the head and these events has this fault at its front
+-- what follows the head and these events has this fault at its beginning
 pub record PlayerFaultAfter (octets : List ℕ) (j : PlayerRecord) (f : RecordFault) : Type 0 where
   pub fits : PlayerRecordFits j
   pub rest : List ℕ
   pub text : octets ≡ player_front j ++ rest
   pub fault : play_fault_at (opening_behind true j.events) (length j.events) (length (player_front j)) rest ≡ Some f
 
--- the first fault of octets that are no player's journal: of the head, or behind some events
+-- the first fault of octets that are no player's journal: of the head, or after some events
 abbrev pub HasPlayerFault : List ℕ → RecordFault → Type 0
 HasPlayerFault octets f = (head_fault play_magic (take 12 octets) ≡ Some f) ⊎ ((j : PlayerRecord) × PlayerFaultAfter octets j f)
 
@@ -101,15 +101,15 @@ HasPlayerFault octets f = (head_fault play_magic (take 12 octets) ≡ Some f) �
 abbrev pub IsRefusedBy : {T : Type 0} → RecordFault → Result T JournalRefusal → Type 0
 IsRefusedBy f result = (result ≡ Err (End (Fault f))) ⊎ (result ≡ Err (End ReadFailed))
 
--- Octets whose head has a fault are refused by it, and never for want of memory.
+-- Octets whose head has a fault are refused by it, and never because memory is out.
 abbrev pub RefusesByHead : {T : Type 0} → (List ℕ → Option RecordFault) → Option (List ℕ) → Result T JournalRefusal → Type 0
 RefusesByHead head input result = (octets : List ℕ) (f : RecordFault) → input ≡ Some octets → head octets ≡ Some f → IsRefusedBy f result
 
--- Octets with a first fault are refused by it, or for want of memory.
+-- Octets with a first fault are refused by it, or because memory is out.
 abbrev pub RefusesByFirst : {T : Type 0} → (List ℕ → RecordFault → Type 0) → Option (List ℕ) → Result T JournalRefusal → Type 0
 RefusesByFirst Has input result = (octets : List ℕ) (f : RecordFault) → input ≡ Some octets → Has octets f → IsRefusedBy f result ⊎ (result ≡ Err OutOfMemory)
 
--- Octets that are a journal are read, unless a read fails, or for want of memory.
+-- Octets that are a journal are read, unless a read fails, or because memory is out.
 abbrev pub ReadsWhole : {T J : Type 0} → (List ℕ → J → Type 0) → Option (List ℕ) → ℕ → ℕ → Result T JournalRefusal → Type 0
 ReadsWhole {T} {J} IsJournal input before now result =
     (octets : List ℕ) (j : J) → input ≡ Some octets → IsJournal octets j → ¬ Rose before now → IsOk result ⊎ (result ≡ Err OutOfMemory)

@@ -21,7 +21,7 @@ play_event_text (Base base) = 17 ∷ big_bytes 4 base
 play_event_text Erasure = 18 ∷ []
 play_event_text (Frame frame) = 19 ∷ frame
 
--- the most octets of an event: a frame behind its kind
+-- the most octets of an event: a frame after its kind
 abbrev pub longest_play : ℕ
 longest_play = 34
 
@@ -54,7 +54,7 @@ play_text h calls = play_front h calls ++ end_mark ∷ []
 
 -- ---- the order of events
 
--- Idle events come first, then at most one Base, then the others: whether Idle and Base may come behind an event
+-- Idle events come first, then at most one Base, then the others: whether Idle and Base may come after an event
 abbrev pub may_open : PlayEvent → Bool
 may_open Idle = true
 may_open (Base base) = false
@@ -84,13 +84,13 @@ play_width opening kind =
     (if kind == 16 then Some 0 else if kind == 17 then Some 4 else None)
     else None
 
--- the first fault of the field behind a kind, of which the first octet stands at place from
+-- the first fault of the field after a kind, of which the first octet stands at place from
 abbrev pub play_field_fault : ℕ → ℕ → List ℕ → Option RecordFault
 play_field_fault kind from fields =
     if kind == 19 then judged fields from 0 33 is_signed None
     else if kind == 17 then judged fields from 0 4 (λ o. true) None
     else None
 
--- the fault that stands at place `at`, after so many events, where these octets are left
+-- the fault that stands at place `at`, after this many events, where these octets are left
 abbrev pub play_fault_at : Bool → ℕ → ℕ → List ℕ → Option RecordFault
 play_fault_at opening = fault_by (λ kind. judged_behind (play_width opening kind) (play_field_fault kind))

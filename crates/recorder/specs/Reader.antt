@@ -39,7 +39,7 @@ TellsNoKind (Ok None) fault = fault ≡ None
 TellsNoKind (Err (Fault f)) fault = fault ≡ Some f
 TellsNoKind (Err ReadFailed) fault = Unit {0}
 
--- this is left of an input after some of it was taken from the front
+-- this is left of an input after some of it was taken from the beginning
 abbrev pub IsWithin : Option (List ℕ) → Option (List ℕ) → Type 0
 IsWithin input left = (taken : List ℕ) × Consumes input left taken
 

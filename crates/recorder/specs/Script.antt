@@ -18,7 +18,7 @@ event_text (File caller number frame) = 2 ∷ caller ∷ (big_bytes 8 number ++ 
 event_text (Datagram caller at octets) = 3 ∷ caller ∷ (big_bytes 4 at ++ (big_bytes 2 (length octets) ++ octets))
 event_text Beat = 4 ∷ []
 
--- the most octets of an event: the fields of a Datagram behind its kind, and the octets that it announces
+-- the most octets of an event: the fields of a Datagram after its kind, and the octets that it announces
 abbrev pub longest_event : ℕ
 longest_event = 2056
 
@@ -67,7 +67,7 @@ datagram_fault h from fields =
     (judged fields from 1 4 (λ o. true)
     (judged fields from 5 2 (λ o. nat_le (big_number 2 o) 2048) None))
 
--- the fault of so many octets, where these are left
+-- the fault of this many octets, where these are left
 abbrev pub octets_fault : ℕ → ℕ → List ℕ → Option RecordFault
 octets_fault from count octets = if nat_lt (length octets) count then Some (Cut (from + length octets)) else None
 
@@ -75,13 +75,13 @@ octets_fault from count octets = if nat_lt (length octets) count then Some (Cut 
 abbrev pub announced : List ℕ → ℕ
 announced fields = big_number 2 (take 2 (drop 5 fields))
 
--- of two parts, one behind the other, the first fault
+-- of two parts, one after the other, the first fault
 infixl 5 ◌then◌
 abbrev pub ◌then◌ : Option RecordFault → Option RecordFault → Option RecordFault
 (Some f) then later = Some f
 None then later = later
 
--- the first fault of a Datagram behind its kind
+-- the first fault of a Datagram after its kind
 abbrev pub whole_datagram_fault : Heading → ℕ → List ℕ → Option RecordFault
 whole_datagram_fault h from fields = datagram_fault h from (take 7 fields) then octets_fault (from + 7) (announced fields) (drop 7 fields)
 
@@ -94,11 +94,11 @@ kind_fault h kind at rest =
     else if kind == 4 then None
     else Some (Kind at)
 
--- the fault that stands at place `at`, after so many events, where these octets are left
+-- the fault that stands at place `at`, after this many events, where these octets are left
 abbrev pub fault_at : Heading → ℕ → ℕ → List ℕ → Option RecordFault
 fault_at h = fault_by (kind_fault h)
 
--- the octets of a head and of events behind it
+-- the octets of a head and of events after it
 abbrev pub script_text : Heading → List ScriptEvent → List ℕ
 script_text h events = head_text script_magic h ++ flat_map event_text events
 
@@ -109,7 +109,7 @@ pub record IsScript (octets : List ℕ) (h : Heading) (events : List ScriptEvent
   pub few : length events ≤ event_limit
   pub text : (rest : List ℕ) × (octets ≡ script_text h events ++ end_mark ∷ rest)
 
--- what follows the head and these events has this fault at its front
+-- what follows the head and these events has this fault at its beginning
 pub record FaultAfter (octets : List ℕ) (h : Heading) (events : List ScriptEvent) (f : RecordFault) : Type 0 where
   pub heading : IsHeading h
   pub fits : AllByRecursion (EventFits h) events
@@ -118,7 +118,7 @@ pub record FaultAfter (octets : List ℕ) (h : Heading) (events : List ScriptEve
   pub text : octets ≡ script_text h events ++ rest
   pub fault : fault_at h (length events) (length (script_text h events)) rest ≡ Some f
 
--- the first fault of an input: of its head, or behind some events
+-- the first fault of an input: of its head, or after some events
 abbrev pub HasFirstFault : List ℕ → RecordFault → Type 0
 HasFirstFault octets f = (head_fault script_magic (take 12 octets) ≡ Some f) ⊎ ((h : Heading) × (events : List ScriptEvent) × FaultAfter octets h events f)
 

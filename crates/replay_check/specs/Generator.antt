@@ -17,7 +17,7 @@ seed_key seed = key_of (little_bytes 8 seed ++ replicate 24 0)
 abbrev pub random_word : List ℕ → ℕ → ℕ
 random_word key place = word_at 4 key 0 place
 
--- so many words from a place on, each in four octets, the lowest first
+-- this many words from a place on, each in four octets, the lowest first
 abbrev pub words_text : List ℕ → ℕ → ℕ → List ℕ
 words_text key place zero = []
 words_text key place (suc n) = little_bytes 4 (random_word key place) ++ words_text key (place + 1) n
@@ -37,7 +37,7 @@ made_file key filers r =
     let w = random_word key (9 * r) in
     File (w % filers) (made_number r w) ((208 + w / 2 ^ 28) ∷ words_text key (9 * r + 1) 8)
 
--- so many rounds, each a File and a Tick
+-- this many rounds, each a File and a Tick
 abbrev pub made_events : List ℕ → ℕ → ℕ → List ScriptEvent
 made_events key filers zero = []
 made_events key filers (suc n) = made_events key filers n ++ (made_file key filers n ∷ Tick ∷ [])

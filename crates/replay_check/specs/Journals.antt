@@ -43,7 +43,7 @@ play_of (play.Frame f) = TickCall (item.Frame f)
 abbrev pub plays_in : List PlayEvent → List Call
 plays_in events = map play_of events
 
--- the filers' calls by their numbers, and the player's behind them
+-- the filers' calls by their numbers, and the player's after them
 abbrev pub journal_lists : List FilerRecord → PlayerRecord → Lists
 journal_lists [] p zero = plays_in p.events
 journal_lists [] p (suc k) = []

@@ -32,7 +32,7 @@ AllCallsAt [] (v ∷ vs) = ⊥
 AllCallsAt (f ∷ fs) [] = ⊥
 AllCallsAt (f ∷ fs) (v ∷ vs) = AreCallsAt f.events v.items × AllCallsAt fs vs
 
--- what is left where so many calls of each caller were taken
+-- what is left where this many calls of each caller were taken
 abbrev pub left_of : Lists → List ℕ → Lists
 left_of lists at k = drop (slice_index at k) (lists k)
 

@@ -31,7 +31,7 @@ items_of events = flat_map event_items events
 abbrev pub SpeaksOn : Sounding → Sounding → List Item → List ℤ → Type 0
 SpeaksOn old new more speech = (seed : List ℕ) (items : List Item) (samples : List ℤ) → Voices seed items samples old → Voices seed (items ++ more) (samples ++ speech) new
 
--- the voice played these items, and their speech was given, or a front of it where the give failed
+-- the voice played these items, and their speech was given, or a prefix of it where the give failed
 abbrev pub GivesSpeechOf : {T E : Type 0} → List Item → Sounding → Sounding → Option (List ℕ) → Option (List ℕ) → Result T E → Type 0
 GivesSpeechOf played old new before now result = (speech : List ℤ) × SpeaksOn old new played speech × Gives before now result (sample_octets speech)
 
@@ -42,7 +42,7 @@ Follows (Refused f) j rest = play_fault_at (opening_behind true j.events) (lengt
 Follows ReadFault j rest = Unit {0}
 Follows WriteFault j rest = Unit {0}
 
--- what the output has of the speech: all of it, and where a give failed a front
+-- what the output has of the speech: all of it, and where a give failed a prefix
 abbrev pub HasSpeech : RenderEnd → Option (List ℕ) → Option (List ℕ) → List ℕ → Type 0
 HasSpeech (Done tally) before now speech = Appends before now speech
 HasSpeech (Refused f) before now speech = Appends before now speech
@@ -56,7 +56,7 @@ IsTallied (Refused f) played = Unit {0}
 IsTallied ReadFault played = Unit {0}
 IsTallied WriteFault played = Unit {0}
 
--- behind this front the events were read, and their speech was given
+-- after this prefix the events were read, and their speech was given
 pub record Played (seed front : List ℕ) (end : RenderEnd) (input before now : Option (List ℕ)) (j : PlayerRecord) (samples : List ℤ) : Type 0 where
   pub fits : PlayerRecordFits j
   pub text : IfSome input (λ octets. (rest : List ℕ) × (octets ≡ front ++ rest) × Follows end j rest)
@@ -64,7 +64,7 @@ pub record Played (seed front : List ℕ) (end : RenderEnd) (input before now : 
   pub given : HasSpeech end before now (sample_octets samples)
   pub tallied : IsTallied end (items_of j.events)
 
--- the same of some events, behind a head that was read
+-- the same of some events, after a head that was read
 abbrev pub PlayedBehind : List ℕ → RenderEnd → Heading → Option (List ℕ) → Option (List ℕ) → Option (List ℕ) → Type 0
 PlayedBehind seed end h input before now =
     (j : PlayerRecord) × (samples : List ℤ) × (j.head ≡ h) × Played seed (flat_map play_event_text j.events) end input before now j samples
@@ -87,7 +87,7 @@ Completes end input = (octets : List ℕ) (j : PlayerRecord) → input ≡ Some 
 
 -- ---- where a render stopped, and what was read and given by then
 
--- A give failed. The journal was read up to an event: all of the speech before that event was given, and a front of what the event plays.
+-- A give failed. The journal was read up to an event: all of the speech before that event was given, and a prefix of what the event plays.
 pub record BreaksOff (seed front : List ℕ) (input left before now : Option (List ℕ)) (j : PlayerRecord) (last : PlayEvent) : Type 0 where
   pub fits : PlayerRecordFits (record { head = j.head; events = j.events ++ last ∷ [] })
   pub taken : Consumes input left (front ++ play_event_text last)
@@ -104,7 +104,7 @@ TookHead input left = ConsumesFewer 13 input left
 abbrev pub TookEvent : Option (List ℕ) → Option (List ℕ) → Type 0
 TookEvent input left = ConsumesFewer (longest_play + 1) input left
 
--- The reading stopped behind these events, of which all speech was given. No more than an event's octets were taken behind them.
+-- The reading stopped after these events, of which all speech was given. No more than an event's octets were taken after them.
 pub record StopsShort (seed front : List ℕ) (input left before now : Option (List ℕ)) (j : PlayerRecord) : Type 0 where
   pub fits : PlayerRecordFits j
   pub taken : (mid : Option (List ℕ)) × Consumes input mid front × TookEvent mid left
@@ -112,18 +112,18 @@ pub record StopsShort (seed front : List ℕ) (input left before now : Option (L
   pub heard : IsHeard seed (items_of j.events) samples
   pub given : Appends before now (sample_octets samples)
 
--- the same of events behind a head that was read
+-- the same of events after a head that was read
 abbrev pub StopsBehind : List ℕ → RenderEnd → Heading → Option (List ℕ) → Option (List ℕ) → Option (List ℕ) → Option (List ℕ) → Type 0
 StopsBehind seed (Done tally) h input left before now = Unit {0}
 StopsBehind seed (Refused f) h input left before now = (j : PlayerRecord) × (j.head ≡ h) × StopsShort seed (flat_map play_event_text j.events) input left before now j
 StopsBehind seed ReadFault h input left before now = (j : PlayerRecord) × (j.head ≡ h) × StopsShort seed (flat_map play_event_text j.events) input left before now j
 StopsBehind seed WriteFault h input left before now = (j : PlayerRecord) × (last : PlayEvent) × (j.head ≡ h) × BreaksOff seed (flat_map play_event_text j.events) input left before now j last
 
--- nothing was given, and no more than a head's octets were taken; or the reading stopped behind some events
+-- nothing was given, and no more than a head's octets were taken; or the reading stopped after some events
 abbrev pub StopsReading : List ℕ → Option (List ℕ) → Option (List ℕ) → Option (List ℕ) → Option (List ℕ) → Type 0
 StopsReading seed input left before now = (Keeps before now × TookHead input left) ⊎ ((j : PlayerRecord) × StopsShort seed (player_front j) input left before now j)
 
--- Where the journal has a fault or a read failed, all events that were read were given; where a give failed, all but the last, and a front of that.
+-- Where the journal has a fault or a read failed, all events that were read were given; where a give failed, all but the last, and a prefix of that.
 abbrev pub Stops : List ℕ → RenderEnd → Option (List ℕ) → Option (List ℕ) → Option (List ℕ) → Option (List ℕ) → Type 0
 Stops seed (Done tally) input left before now = Unit {0}
 Stops seed (Refused f) input left before now = StopsReading seed input left before now

@@ -53,7 +53,7 @@ Follows r filers m lists (who ∷ order) P =
 abbrev pub NothingLeft : ℕ → Machine → Lists → Type 0
 NothingLeft filers m lists = (k : ℕ) → k ≤ filers → lists k ≡ []
 
--- No call is possible, and some are left: the first caller that has any is this one, and so many of its calls were
+-- No call is possible, and some are left: the first caller that has any is this one, and this many of its calls were
 -- taken.
 pub record IsStuck (r filers : ℕ) (all : Lists) (caller place : ℕ) (m : Machine) (lists : Lists) : Type 0 where
   pub none : (k : ℕ) → k ≤ filers → Can r m lists k → ⊥
@@ -83,7 +83,7 @@ abbrev pub AllFilers : List Call → Type 0
 AllFilers [] = Unit {0}
 AllFilers (c ∷ cs) = IsFilers c × AllFilers cs
 
--- what the player may have called behind its peeks that saw no base
+-- what the player may have called after its peeks that saw no base
 abbrev pub IsLater : Call → Type 0
 IsLater (FileCall n f reply) = ⊥
 IsLater (SourceCall x held) = ⊥
@@ -111,7 +111,7 @@ pub record AreJournals (filers : ℕ) (lists : Lists) : Type 0 where
 abbrev pub RuleDecides : Type 0
 RuleDecides = (r filers : ℕ) (m : Machine) (lists : Lists) (one two : ℕ) → IsTaken r filers m lists one → IsTaken r filers m lists two → one ≡ two
 
--- the rule comes to its end exactly where there is a legal history
+-- the rule reaches its end exactly where there is a legal history
 abbrev pub RuleIsExact : Type 0
 RuleIsExact = (r filers : ℕ) (lists : Lists) (order : List ℕ) → AreJournals filers lists
     → (Follows r filers opening_machine lists order (NothingLeft filers) → HasOrder r filers opening_machine lists order)
@@ -121,6 +121,6 @@ pub record SameOrder (r filers : ℕ) (lists : Lists) (order order' : List ℕ) 
   pub legal : Follows r filers opening_machine lists order (NothingLeft filers) → Follows r filers opening_machine lists order' (NothingLeft filers) → order ≡ order'
   pub illegal : Follows r filers opening_machine lists order (IsStuck r filers lists caller place) → Follows r filers opening_machine lists order' (IsStuck r filers lists caller' place') → order ≡ order'
 
--- two orders of the rule that come to an end are one
+-- two orders of the rule that reach an end are one
 abbrev pub OrderIsOne : Type 0
 OrderIsOne = (r filers : ℕ) (lists : Lists) (order order' : List ℕ) (caller place caller' place' : ℕ) → SameOrder r filers lists order order' caller place caller' place'

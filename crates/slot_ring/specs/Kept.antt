@@ -1,4 +1,4 @@
--- What passes, blanks, gathers and notes keep between calls, and what one file call comes to.
+-- What passes, blanks, gathers and notes keep between calls, and what one file call results in.
 use Rattle.std.specs.Prelude.{◌≡◌, ℕ, ◌<◌, List, [], ◌∷◌, None, nat_lt, if◌then◌else◌}
 use Rattle.playout.specs.declared.call.Call.TheVariants.{FileCall}
 use Rattle.playout.specs.declared.reply.FileReply.{FileReply}

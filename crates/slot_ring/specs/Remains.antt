@@ -35,7 +35,7 @@ abbrev pub with_number : ℕ → Kept → List (ℕ × List ℕ) → List (ℕ �
 with_number n None rest = rest
 with_number n (Some f) rest = (n, f) ∷ rest
 
--- the frames of so many numbers from this one on
+-- the frames of this many numbers from this one on
 abbrev pub pairs_from : (ℕ → Kept) → ℕ → ℕ → List (ℕ × List ℕ)
 pairs_from g n zero = []
 pairs_from g n (suc count) = with_number n (g n) (pairs_from g (n + 1) count)

@@ -86,7 +86,7 @@ pass_view w r = record { ring = w; who = who_in r; list = list_in r; known = kno
 abbrev pub position_in : PassView → ℕ
 position_in p = start + ticks p.list
 
--- no list of so many filers and the player
+-- no list of this many filers and the player
 abbrev pub no_lists : ℕ → List (Option (List Call))
 no_lists filers = replicate (filers + 1) None
 
