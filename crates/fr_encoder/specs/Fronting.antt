@@ -1,5 +1,5 @@
 -- What the front keeps between pieces, and how it stands after a whole list of them.
-use Rattle.std.specs.Prelude.{◌≡◌, ℕ, ◌+◌, ◌*◌, ◌/◌, ◌%◌, ◌<◌, ℤ, pos, List, ◌++◌, length, replicate}
+use Rattle.std.specs.Prelude.{◌≡◌, ℕ, ◌+◌, ◌*◌, ◌/◌, ◌%◌, ◌<◌, ℤ, pos, List, [], ◌∷◌, ◌++◌, length, replicate}
 use Rattle.fixed_arith.specs.Signal.{at, past}
 use Rattle.lar_filter.specs.Autocorrelation.{onward}
 use Rattle.lar_filter.specs.Runs.{Runs}
@@ -35,3 +35,8 @@ pub record Carries (samples : List ℤ) (codes : List (List ℕ)) (residual : Li
 pub record Fronts (samples : List ℤ) (codes : List (List ℕ)) (residual : List ℤ) (kept : Kept) : Type 0 where
   pub short_term : IsShortTerm samples codes residual
   pub carried : Carries samples codes residual kept
+
+-- Behind any pieces, the samples of one more gave these codes of its ratios, and this residual.
+abbrev pub FrontsOn : Kept → Kept → List ℤ → List ℕ → List ℤ → Type 0
+FrontsOn old new piece larc d =
+    (before : List ℤ) (codes : List (List ℕ)) (residual : List ℤ) → Fronts before codes residual old → Fronts (before ++ piece) (codes ++ larc ∷ []) (residual ++ d) new

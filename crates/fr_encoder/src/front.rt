@@ -1,6 +1,6 @@
 // The encoder's first part: from samples to the codes of the ratios and the short-term residual, GSM 06.10 sections 5.2.1 to 5.2.10.
-ghost use Rattle.std.specs.Prelude.{◌≡◌, ◌<◌, ◌∷◌, ◌++◌, [], ℕ, ℤ, List, slice_index};
-ghost use Rattle.fr_encoder.specs.Fronting.{Fronts};
+ghost use Rattle.std.specs.Prelude.{◌≡◌, ◌<◌, [], slice_index};
+ghost use Rattle.fr_encoder.specs.Fronting.{Fronts, FrontsOn};
 
 use crate::piece_codes::code_ratios;
 use crate::preprocessing::Preprocessing;
@@ -39,8 +39,7 @@ impl Front {
     pub fn step(&mut self, samples: &[i16; 160]) -> ([u8; 8], [i16; 160])
 
         // The pieces before and this one are one list, and all that was given is their short-term part.
-        ensures goes_on { (before : List ℤ) (codes : List (List ℕ)) (residual : List ℤ) → Fronts before codes residual self.old
-            → Fronts (before ++ samples.now) (codes ++ result.0 ∷ []) (residual ++ result.1) self.new }
+        ensures goes_on { FrontsOn self.old self.new samples.now result.0 result.1 }
         ensures first { (slice_index result.0 0 < 64) × (slice_index result.0 1 < 64) }
         ensures second { (slice_index result.0 2 < 32) × (slice_index result.0 3 < 32) }
         ensures third { (slice_index result.0 4 < 16) × (slice_index result.0 5 < 16) }

@@ -3,6 +3,8 @@ use Rattle.std.specs.Prelude.{ℕ, ◌⊎◌, ◌≤◌, ◌<◌, List, length, 
 use Rattle.std.specs.Io.KnownBytes.{Appends, Keeps}
 use Rattle.gate_base.specs.Faults.{Rose}
 use Rattle.gate_io.specs.Flow.{AppendsPart}
+use Rattle.gate_io.specs.declared.sink.Sink as sink
+use Rattle.gate_io.specs.declared.source.Source as source
 
 -- The octets of the input as the command began, and of the output and the notes as it began and ended, where they are told.
 -- And the count of the notes' faults, as it began and ended.
@@ -79,6 +81,35 @@ GaveFront x output notes =
 -- the output is as it was, and the notes have gained this text, or a front of it where a give to them failed
 abbrev pub NotedAlone : Giving → List ℕ → Type 0
 NotedAlone x text = Keeps x.output x.output_now × GainedUnlessFault x.notes x.notes_now x.noted x.noted_now text
+
+-- ---- what the objects tell of themselves, before and now
+
+-- what an output and the notes were given, and the notes' faults
+abbrev pub giving_of : {O E : Type 0} → sink.Ghosts O → sink.Ghosts E → O → O → E → E → Giving
+giving_of o e output output_now notes notes_now = record {
+  output = o.given output;
+  output_now = o.given output_now;
+  notes = e.given notes;
+  notes_now = e.given notes_now;
+  noted = e.faults notes;
+  noted_now = e.faults notes_now;
+}
+
+-- the same, and what was left of an input before
+abbrev pub exchange_of : {I O E : Type 0} → source.Ghosts I → sink.Ghosts O → sink.Ghosts E → I → O → O → E → E → Exchange
+exchange_of i o e input output output_now notes notes_now = record {
+  input = i.left input;
+  output = o.given output;
+  output_now = o.given output_now;
+  notes = e.given notes;
+  notes_now = e.given notes_now;
+  noted = e.faults notes;
+  noted_now = e.faults notes_now;
+}
+
+-- a give to the output or to the notes failed: the count of its faults rose
+abbrev pub GiveFailed : {O E : Type 0} → sink.Ghosts O → sink.Ghosts E → O → O → E → E → Type 0
+GiveFailed o e output output_now notes notes_now = Rose (o.faults output) (o.faults output_now) ⊎ Rose (e.faults notes) (e.faults notes_now)
 
 -- ---- counts of several inputs, in their order
 

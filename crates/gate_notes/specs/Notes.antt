@@ -78,6 +78,10 @@ other_words t = counted (codes " refused ") t.refused ++ (counted (codes " stran
 abbrev pub tally_line : List ℕ → Tally → List ℕ
 tally_line whose t = whose ++ (counted (codes " datagrams ") t.datagrams ++ (frame_words t ++ (other_words t ++ newline)))
 
+-- the summary of a run by its tallies
+abbrev pub tallies_text : PlayTally → Tally → List ℕ
+tallies_text plays tally = play_line plays ++ tally_line (codes "all") tally
+
 -- the words of a fault, with its place
 abbrev pub fault_words : RecordFault → List ℕ
 fault_words Magic = codes " magic"

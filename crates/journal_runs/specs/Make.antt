@@ -1,5 +1,5 @@
 -- What `make` does: a script from random words.
-use Rattle.std.specs.Prelude.{ℕ, ◌≡◌, ◌⊎◌, ◌++◌, List, codes}
+use Rattle.std.specs.Prelude.{ℕ, ◌≡◌, ◌⊎◌}
 use Rattle.std.specs.Io.KnownBytes.{Appends, Keeps}
 use Rattle.gate_io.specs.Flow.{AppendsPart}
 use Rattle.recorder.specs.declared.tally.PlayTally.{PlayTally}
@@ -7,13 +7,9 @@ use Rattle.recorder.specs.declared.tally.Tally.{Tally}
 use Rattle.replay_check.specs.Generator.{made_script}
 use Rattle.replay_check.specs.Made.{AreTallies}
 use Rattle.gate_notes.specs.Exchange.{GaveBoth, GaveNothing, Giving}
-use Rattle.gate_notes.specs.Notes.{play_line, tally_line}
+use Rattle.gate_notes.specs.Notes.{tallies_text}
 use Rattle.gate_notes.specs.declared.status.Status.{Status}
 use Rattle.gate_notes.specs.declared.status.Status.TheVariants.{Done, Illegal, Usage, Input, ReadFault, WriteFault, LinkFault, OutOfMemory}
-
--- the summary of a run by its tallies
-abbrev pub tallies_text : PlayTally → Tally → List ℕ
-tallies_text plays tally = play_line plays ++ tally_line (codes "all") tally
 
 -- What each status says. Where a give failed the output has a front of the script and the notes are as they were, or the
 -- output has all of it and the notes have a front of the summary.

@@ -1,7 +1,6 @@
 // The command `make`: a script from random words.
-ghost use Rattle.std.specs.Prelude.{◌≡◌, ◌≤◌, ◌⊎◌};
-ghost use Rattle.gate_base.specs.Faults.{Rose};
-ghost use Rattle.gate_notes.specs.Exchange.{Giving};
+ghost use Rattle.std.specs.Prelude.{◌≡◌, ◌≤◌};
+ghost use Rattle.gate_notes.specs.Exchange.{GiveFailed, giving_of};
 ghost use Rattle.journal_runs.specs.Make.{Completes, Ends};
 
 use gate_base::OutOfMemory;
@@ -24,17 +23,10 @@ pub fn make<O: Sink, E: Sink>(
 ) -> Status
     requires rounds { (1 ≤ count) × (count ≤ 1000000) }
     requires filers { (1 ≤ filers) × (filers ≤ 64) }
-    ensures ends { let x : Giving = record {
-      output = O.given output.old;
-      output_now = O.given output.new;
-      notes = E.given notes.old;
-      notes_now = E.given notes.new;
-      noted = E.faults notes.old;
-      noted_now = E.faults notes.new;
-    } in Ends seed count filers result x }
+    ensures ends { Ends seed count filers result (giving_of O.Sink E.Sink output.old output.new notes.old notes.new) }
     ensures later { (O.faults output.old ≤ O.faults output.new) × (E.faults notes.old ≤ E.faults notes.new) }
-    ensures write { result ≡ Status.WriteFault → Rose (O.faults output.old) (O.faults output.new) ⊎ Rose (E.faults notes.old) (E.faults notes.new) }
-    ensures complete { Completes result (Rose (O.faults output.old) (O.faults output.new) ⊎ Rose (E.faults notes.old) (E.faults notes.new)) }
+    ensures write { result ≡ Status.WriteFault → GiveFailed O.Sink E.Sink output.old output.new notes.old notes.new }
+    ensures complete { Completes result (GiveFailed O.Sink E.Sink output.old output.new notes.old notes.new) }
     ensures kin { O.kin output.old output.new × E.kin notes.old notes.new }
 {
     match make_script(alloc, seed, count, filers, output) {

@@ -1,7 +1,7 @@
 // The command `render`: a player's journal becomes the speech that it played.
 ghost use Rattle.std.specs.Prelude.{◌≡◌, ◌≤◌, ◌⊎◌};
 ghost use Rattle.gate_base.specs.Faults.{Rose};
-ghost use Rattle.gate_notes.specs.Exchange.{Exchange};
+ghost use Rattle.gate_notes.specs.Exchange.{GiveFailed, exchange_of};
 ghost use Rattle.journal_runs.specs.Render.{Completes, Ends, StopsAt};
 
 use gate_io::{Failed, Sink, Source};
@@ -19,28 +19,12 @@ pub fn render<I: Source, O: Sink, E: Sink>(
     output: &mut O,
     notes: &mut E,
 ) -> Status
-    ensures ends { let x : Exchange = record {
-      input = I.left input.old;
-      output = O.given output.old;
-      output_now = O.given output.new;
-      notes = E.given notes.old;
-      notes_now = E.given notes.new;
-      noted = E.faults notes.old;
-      noted_now = E.faults notes.new;
-    } in Ends seed result x }
-    ensures stops { let x : Exchange = record {
-      input = I.left input.old;
-      output = O.given output.old;
-      output_now = O.given output.new;
-      notes = E.given notes.old;
-      notes_now = E.given notes.new;
-      noted = E.faults notes.old;
-      noted_now = E.faults notes.new;
-    } in StopsAt seed result x (I.left input.new) }
+    ensures ends { Ends seed result (exchange_of I.Source O.Sink E.Sink input.old output.old output.new notes.old notes.new) }
+    ensures stops { StopsAt seed result (exchange_of I.Source O.Sink E.Sink input.old output.old output.new notes.old notes.new) (I.left input.new) }
     ensures later { (I.faults input.old ≤ I.faults input.new) × (O.faults output.old ≤ O.faults output.new) × (E.faults notes.old ≤ E.faults notes.new) }
     ensures read { result ≡ Status.ReadFault → Rose (I.faults input.old) (I.faults input.new) }
-    ensures write { result ≡ Status.WriteFault → Rose (O.faults output.old) (O.faults output.new) ⊎ Rose (E.faults notes.old) (E.faults notes.new) }
-    ensures complete { Completes result (I.left input.old) (Rose (I.faults input.old) (I.faults input.new) ⊎ Rose (O.faults output.old) (O.faults output.new) ⊎ Rose (E.faults notes.old) (E.faults notes.new)) }
+    ensures write { result ≡ Status.WriteFault → GiveFailed O.Sink E.Sink output.old output.new notes.old notes.new }
+    ensures complete { Completes result (I.left input.old) (Rose (I.faults input.old) (I.faults input.new) ⊎ GiveFailed O.Sink E.Sink output.old output.new notes.old notes.new) }
     ensures kin { O.kin output.old output.new × E.kin notes.old notes.new }
 {
     match replay_check::render(seed, input, output) {

@@ -1,7 +1,6 @@
 // The command `verify`: whether the journals of a line have a legal history.
 ghost use Rattle.std.specs.Prelude.{ℕ, ◌≡◌, ◌≤◌, ◌⊎◌, List, Option, length, map};
-ghost use Rattle.gate_base.specs.Faults.{Rose};
-ghost use Rattle.gate_notes.specs.Exchange.{GainedUnlessFault, Giving, NoneFell, SomeRose};
+ghost use Rattle.gate_notes.specs.Exchange.{GainedUnlessFault, GiveFailed, NoneFell, SomeRose, giving_of};
 ghost use Rattle.journal_runs.specs.Verify.{Completes, Ends, HasVerdict, StopsAtInput};
 ghost use Rattle.journal_runs.specs.VerifyRuns.{IsRefused};
 
@@ -37,17 +36,10 @@ fn give_verdict<O: Sink, E: Sink>(
     output: &mut O,
     notes: &mut E,
 ) -> Status
-    ensures ends { let x : Giving = record {
-      output = O.given output.old;
-      output_now = O.given output.new;
-      notes = E.given notes.old;
-      notes_now = E.given notes.new;
-      noted = E.faults notes.old;
-      noted_now = E.faults notes.new;
-    } in (inputs : List (Option (List ℕ))) → HasVerdict inputs filers verdict.now → Ends result inputs x }
+    ensures ends { (inputs : List (Option (List ℕ))) → HasVerdict inputs filers verdict.now → Ends result inputs (giving_of O.Sink E.Sink output.old output.new notes.old notes.new) }
     ensures comes { (result ≡ Status.Done) ⊎ (result ≡ Status.Illegal) ⊎ (result ≡ Status.WriteFault) }
     ensures later { (O.faults output.old ≤ O.faults output.new) × (E.faults notes.old ≤ E.faults notes.new) }
-    ensures write { result ≡ Status.WriteFault → Rose (O.faults output.old) (O.faults output.new) ⊎ Rose (E.faults notes.old) (E.faults notes.new) }
+    ensures write { result ≡ Status.WriteFault → GiveFailed O.Sink E.Sink output.old output.new notes.old notes.new }
     ensures kin { O.kin output.old output.new × E.kin notes.old notes.new }
 {
     match verdict {
@@ -77,20 +69,13 @@ pub fn verify<I: Source, O: Sink, E: Sink>(
     notes: &mut E,
 ) -> Status
     requires { 2 ≤ length inputs.old }
-    ensures ends { let x : Giving = record {
-      output = O.given output.old;
-      output_now = O.given output.new;
-      notes = E.given notes.old;
-      notes_now = E.given notes.new;
-      noted = E.faults notes.old;
-      noted_now = E.faults notes.new;
-    } in Ends result (map I.left inputs.old) x }
+    ensures ends { Ends result (map I.left inputs.old) (giving_of O.Sink E.Sink output.old output.new notes.old notes.new) }
     ensures many { length inputs.new ≡ length inputs.old }
     ensures later { NoneFell (map I.faults inputs.old) (map I.faults inputs.new) × (O.faults output.old ≤ O.faults output.new) × (E.faults notes.old ≤ E.faults notes.new) }
     ensures read { result ≡ Status.ReadFault → SomeRose (map I.faults inputs.old) (map I.faults inputs.new) }
     ensures behind { StopsAtInput result (map I.left inputs.old) I.faults inputs.old inputs.new (GainedUnlessFault (E.given notes.old) (E.given notes.new) (E.faults notes.old) (E.faults notes.new)) }
-    ensures write { result ≡ Status.WriteFault → Rose (O.faults output.old) (O.faults output.new) ⊎ Rose (E.faults notes.old) (E.faults notes.new) }
-    ensures complete { Completes result (map I.left inputs.old) (SomeRose (map I.faults inputs.old) (map I.faults inputs.new) ⊎ Rose (O.faults output.old) (O.faults output.new) ⊎ Rose (E.faults notes.old) (E.faults notes.new)) }
+    ensures write { result ≡ Status.WriteFault → GiveFailed O.Sink E.Sink output.old output.new notes.old notes.new }
+    ensures complete { Completes result (map I.left inputs.old) (SomeRose (map I.faults inputs.old) (map I.faults inputs.new) ⊎ GiveFailed O.Sink E.Sink output.old output.new notes.old notes.new) }
     ensures kin { O.kin output.old output.new × E.kin notes.old notes.new }
 {
     player_journals_have_no_fault();

@@ -30,3 +30,9 @@ pub record PassesFrame (Step : List ℤ → List ℤ → ℤ → ℤ → List �
   pub fed : IsFed (frame_coefficient before now) 0 values more
   pub run : Runs Step start (inputs ++ more) ys after
   pub equations : Solves start (inputs ++ more) ys after
+
+-- Behind any samples that went through and left the filter so, the values of a frame gave these samples.
+abbrev pub ExtendsByFrame : (List ℤ → List ℤ → ℤ → ℤ → List ℤ → Type 0) → (List ℤ → List (List ℤ × ℤ) → List ℤ → List ℤ → Type 0)
+    → List ℤ → List ℤ → List ℤ → List ℤ → List ℤ → List ℤ → Type 0
+ExtendsByFrame Step Solves before now values kept given after =
+    (start : List ℤ) (inputs : List (List ℤ × ℤ)) (ys : List ℤ) → Runs Step start inputs ys kept → PassesFrame Step Solves before now values start inputs (ys ++ given) after

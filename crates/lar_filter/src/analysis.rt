@@ -1,8 +1,8 @@
 // The short-term analysis filter: GSM 06.10 section 5.2.10.
-ghost use Rattle.std.specs.Prelude.{◌≡◌, ℤ, pos, List, replicate, ◌++◌};
+ghost use Rattle.std.specs.Prelude.{◌≡◌, pos, replicate};
 ghost use Rattle.fixed_arith.specs.Word.{add_words, mult_r_words};
-ghost use Rattle.lar_filter.specs.Parts.{PassesFrame};
-ghost use Rattle.lar_filter.specs.Runs.{Runs, inputs_of};
+ghost use Rattle.lar_filter.specs.Parts.{ExtendsByFrame};
+ghost use Rattle.lar_filter.specs.Runs.{Extends, Runs, inputs_of};
 ghost use Rattle.lar_filter.specs.Rising.{RisesTo};
 ghost use Rattle.lar_filter.specs.RisingTrace.{RisesOver};
 
@@ -37,12 +37,10 @@ impl Analysis {
         ensures run { Runs RisesTo self.old (inputs_of rp.now samples.old) samples.new self.new }
 
         // The calls before and this one are one run.
-        ensures goes_on { (start : List ℤ) (inputs : List (List ℤ × ℤ)) (ys : List ℤ) → Runs RisesTo start inputs ys self.old
-            → Runs RisesTo start (inputs ++ inputs_of rp.now samples.old) (ys ++ samples.new) self.new }
+        ensures goes_on { Extends RisesTo (Runs RisesTo) self.old (inputs_of rp.now samples.old) samples.new self.new }
 
         // What went through, call after call, solves the equations in two indices.
-        ensures equations { (start : List ℤ) (inputs : List (List ℤ × ℤ)) (ys : List ℤ) → Runs RisesTo start inputs ys self.old
-            → RisesOver start (inputs ++ inputs_of rp.now samples.old) (ys ++ samples.new) self.new }
+        ensures equations { Extends RisesTo RisesOver self.old (inputs_of rp.now samples.old) samples.new self.new }
     {
         let mut u = self.u;
         for sample in samples.iter_mut() {
@@ -55,8 +53,7 @@ impl Analysis {
     pub fn run_frame(&mut self, before: &[i16; 8], now: &[i16; 8], samples: &mut [i16; 160])
 
         // The calls before and this one are one run, which solves the equations in two indices.
-        ensures goes_on { (start : List ℤ) (inputs : List (List ℤ × ℤ)) (ys : List ℤ) → Runs RisesTo start inputs ys self.old
-            → PassesFrame RisesTo RisesOver before.now now.now samples.old start inputs (ys ++ samples.new) self.new }
+        ensures goes_on { ExtendsByFrame RisesTo RisesOver before.now now.now samples.old self.old samples.new self.new }
     {
         let (first, rest) = samples.split_at_mut(FIRST);
         let (second, rest) = rest.split_at_mut(SECOND);

@@ -5,7 +5,8 @@ use Rattle.frame_codec.specs.declared.item.Item.{Item}
 use Rattle.playout.specs.declared.reply.FileReply.{FileReply}
 use Rattle.playout.specs.declared.call.Call.{Call}
 use Rattle.playout.specs.declared.call.Call.TheVariants.{FileCall, PeekCall, TickCall}
-use Rattle.playout.specs.History.{Entry, entry}
+use Rattle.playout.specs.Line.{FilerSteps, Line}
+use Rattle.playout.specs.History.{Chained, Entry, entry}
 use Rattle.recorder.specs.declared.events.ScriptEvent.{ScriptEvent}
 use Rattle.recorder.specs.declared.events.ScriptEvent.TheVariants.{Tick, File, Datagram, Beat}
 use Rattle.recorder.specs.Heads.{Heading}
@@ -58,6 +59,12 @@ IsBeat true player before turn after = IsTick player before turn after
 IsBeat false player before turn after =
     ((turn ≡ bare (entry player (PeekCall None) ∷ [])) × (after ≡ before))
     ⊎ ((base : ℕ) × (item : Item) × (turn ≡ bare (entry player (PeekCall (Some base)) ∷ entry player (TickCall item) ∷ [])) × (after ≡ has_ticked before))
+
+-- the filer of this caller took the datagram, with its calls over the side, and the other filers are as they were
+abbrev pub IsTakenBy : ℕ → List ℕ → ℕ → Outcome → List takes.Known → List takes.Known → Line × ℕ → Line × ℕ → Type 0
+IsTakenBy caller octets at outcome filers filers_now side side_now =
+    (k : takes.Known) × (later : takes.Known) × (slice_get filers caller ≡ Some k) × (filers_now ≡ slice_set filers caller later)
+    × takes.IsTaken k octets at outcome later × Chained FilerSteps side (takes.calls_of k octets at outcome) side_now
 
 -- The datagram was taken by its caller's filer, as that filer's earlier datagrams left it. It makes that filer's calls.
 pub record IsDatagram (caller at : ℕ) (octets : List ℕ) (before : Callers) (turn : Turn) (after : Callers) : Type 0 where

@@ -20,6 +20,7 @@ use Rattle.script_runs.specs.Playing.{GoesOn}
 use Rattle.script_runs.specs.Simulate.{IsRun, fault_after}
 use Rattle.script_runs.specs.declared.playback.Playback.{Playback}
 use Rattle.script_runs.specs.declared.run.Run.{Run}
+use Rattle.gate_notes.specs.Exchange.{Exchange}
 use Rattle.gate_notes.specs.declared.status.Status.{Status}
 use Rattle.gate_notes.specs.declared.status.Status.TheVariants as status
 use Rattle.gate_notes.specs.declared.stop.Stop.{Stop}
@@ -75,6 +76,10 @@ pub record Ran (h : Heading) (playback playback_now : Playback) (input before no
   pub given : Has result before now played
   pub noted : Has result notes notes_now (run_lines turns)
   pub counted : HasCounted result h turns
+
+-- the same of some events, over these objects
+abbrev pub HasRun : Heading → Playback → Playback → Exchange → Result Run Stop → Type 0
+HasRun h playback playback_now x result = (events : List ScriptEvent) × (turns : List Turn) × Ran h playback playback_now x.input x.output x.output_now x.notes x.notes_now result events turns
 
 -- A give failed in an event's turn. The events were read up to that one: what the turns before it give was given, and a front of what its own turn gives.
 pub record Breaks (h : Heading) (playback playback_now : Playback) (input left before now notes notes_now : Option (List ℕ)) : Type 0 where

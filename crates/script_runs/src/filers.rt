@@ -1,10 +1,7 @@
 // The filers of a script.
-ghost use Rattle.std.specs.Prelude.{◌≡◌, ◌≤◌, ◌<◌, Some, IfOk, length, replicate, slice_get, slice_set};
-ghost use Rattle.playout.specs.History.{Chained};
-ghost use Rattle.playout.specs.Line.{FilerSteps};
+ghost use Rattle.std.specs.Prelude.{◌≡◌, ◌≤◌, ◌<◌, IfOk, length, replicate};
 ghost use Rattle.filer.specs.Journals.{EndFits};
-ghost use Rattle.filer.specs.Takes.{IsTaken, Known, calls_of};
-ghost use Rattle.script_runs.specs.Calls.{new_filer};
+ghost use Rattle.script_runs.specs.Calls.{IsTakenBy, new_filer};
 
 use filer::{Filer, Outcome};
 use gate_base::OutOfMemory;
@@ -38,8 +35,7 @@ pub fn take_by(
     at: u32,
 ) -> Outcome
     requires { caller < length filers.old }
-    ensures taken { (k : Known) × (later : Known) × (slice_get filers.old caller ≡ Some k) × (filers.new ≡ slice_set filers.old caller later)
-        × IsTaken k datagram.now at result later × Chained FilerSteps side.old (calls_of k datagram.now at result) side.new }
+    ensures taken { IsTakenBy caller datagram.now at result filers.old filers.new side.old side.new }
     ensures fits { EndFits result.end }
 {
     filers[caller as usize].take(side, datagram.octets(), at)

@@ -1,12 +1,11 @@
 // What becomes of the player's beats.
-ghost use Rattle.std.specs.Prelude.{◌≡◌, ◌∷◌, ◌++◌, [], List, ℕ, ℤ};
+ghost use Rattle.std.specs.Prelude.{◌∷◌, [], List, ℕ, ℤ};
 ghost use Rattle.std.specs.List.{flat_map};
 ghost use Rattle.gate_base.specs.Faults.{HasCause};
 ghost use Rattle.gate_io.specs.Flow.{Gives};
-ghost use Rattle.frame_codec.specs.declared.item.Item.{Item};
-ghost use Rattle.substitution.specs.Heard.{Voices, sample_octets};
+ghost use Rattle.substitution.specs.Heard.{sample_octets};
 ghost use Rattle.recorder.specs.Play.{call_text};
-ghost use Rattle.player.specs.Beats.{calls_of, item_of};
+ghost use Rattle.player.specs.Beats.{Speaks, calls_of, item_of};
 ghost use Rattle.script_runs.specs.Playing.{GoesOn, Stands, end_text, front_text};
 
 use byteorder::{ByteOrder, LittleEndian};
@@ -76,8 +75,7 @@ impl Playback {
 
 // Plays an item, and gives its 160 samples in one give.
 fn speak<O: Sink>(voice: &mut Voice, item: Item, output: &mut O) -> Result<(), Failed>
-    ensures spoken { (played : List ℤ) × Gives (O.given output.old) (O.given output.new) result (sample_octets played)
-        × ((seed : List ℕ) (items : List Item) (samples : List ℤ) → Voices seed items samples voice.old → Voices seed (items ++ item ∷ []) (samples ++ played) voice.new) }
+    ensures spoken { (played : List ℤ) × Gives (O.given output.old) (O.given output.new) result (sample_octets played) × Speaks voice.old voice.new item played }
     ensures cause { HasCause (O.faults output.old) (O.faults output.new) result }
     ensures kin { O.kin output.old output.new }
 {

@@ -1,15 +1,10 @@
 // A script's run as it goes on.
-ghost use Rattle.std.specs.Prelude.{◌≡◌, ◌≤◌, ◌<◌, ◌^◌, ◌⊎◌, ◌++◌, List, OnErr, IfOk, ℕ, [], length, false};
-ghost use Rattle.std.specs.List.{flat_map};
-ghost use Rattle.gate_base.specs.Faults.{HasCause, Rose};
-ghost use Rattle.gate_io.specs.Flow.{Gives};
-ghost use Rattle.playout.specs.History.{calls_of};
-ghost use Rattle.recorder.specs.Play.{call_text};
-ghost use Rattle.recorder.specs.Tallies.{call_items, no_plays, no_tally};
+ghost use Rattle.std.specs.Prelude.{◌≡◌, ◌≤◌, ◌<◌, ◌^◌, List, OnErr, length, false};
+ghost use Rattle.gate_base.specs.Faults.{HasCause};
+ghost use Rattle.recorder.specs.Tallies.{no_plays, no_tally};
 ghost use Rattle.recorder.specs.declared.events.ScriptEvent.TheVariants.{File, Datagram};
-ghost use Rattle.script_runs.specs.Calls.{IsCallable, Turn};
-ghost use Rattle.script_runs.specs.TurnLines.{turn_lines};
-ghost use Rattle.script_runs.specs.Playing.{GoesOn};
+ghost use Rattle.script_runs.specs.Calls.{IsCallable};
+ghost use Rattle.gate_notes.specs.Exchange.{GiveFailed, giving_of};
 ghost use Rattle.script_runs.specs.declared.playback.Playback.{Playback};
 ghost use Rattle.script_runs.specs.declared.run.Run.{Run};
 
@@ -36,7 +31,7 @@ pub struct Run {
 }
 
 impl Run {
-    ghost use Rattle.script_runs.specs.Applies.{Applies, Plays};
+    ghost use Rattle.script_runs.specs.Applies.{HasApplied, HasFiled, HasPlayed};
 
     /// A run before its first event.
     pub fn new(line: MapLine, filers: Vec<Filer>) -> Run
@@ -63,12 +58,9 @@ impl Run {
         requires callable { IsCallable self.line.filers event.now }
         requires filers { length self.filers.items ≡ self.line.filers }
         requires position { self.line.machine.position < 2 ^ 33 }
-        ensures applied { (new : Run) × (turn : Turn) × (text : List ℕ) × Applies event.now self new turn × IfOk result (λ run. run ≡ new)
-            × GoesOn (flat_map call_text (calls_of self.line.filers turn.calls)) (flat_map call_items (calls_of self.line.filers turn.calls)) playback.old playback.new text
-            × Gives (O.given output.old) (O.given output.new) result text
-            × Gives (E.given notes.old) (E.given notes.new) result (turn_lines turn) }
+        ensures applied { HasApplied event.now self result playback.old playback.new (giving_of O.Sink E.Sink output.old output.new notes.old notes.new) }
         ensures later { (O.faults output.old ≤ O.faults output.new) × (E.faults notes.old ≤ E.faults notes.new) }
-        ensures failed { OnErr result (Rose (O.faults output.old) (O.faults output.new) ⊎ Rose (E.faults notes.old) (E.faults notes.new)) }
+        ensures failed { OnErr result (GiveFailed O.Sink E.Sink output.old output.new notes.old notes.new) }
         ensures kin { O.kin output.old output.new × E.kin notes.old notes.new }
     {
         match event {
@@ -96,10 +88,7 @@ impl Run {
         output: &mut O,
     ) -> Result<Run, Failed>
         requires position { self.line.machine.position < 2 ^ 33 }
-        ensures applied { (new : Run) × (turn : Turn) × (text : List ℕ) × Plays opened self new turn × IfOk result (λ run. run ≡ new)
-            × GoesOn (flat_map call_text (calls_of self.line.filers turn.calls)) (flat_map call_items (calls_of self.line.filers turn.calls)) playback.old playback.new text
-            × Gives (O.given output.old) (O.given output.new) result text
-            × (turn_lines turn ≡ []) }
+        ensures applied { HasPlayed opened self result playback.old playback.new (O.given output.old) (O.given output.new) }
         ensures cause { HasCause (O.faults output.old) (O.faults output.new) result }
         ensures kin { O.kin output.old output.new }
     {
@@ -136,9 +125,7 @@ impl Run {
     ) -> Result<Run, Failed>
         requires caller { caller < self.line.filers }
         requires number { number < 2 ^ 47 }
-        ensures applied { (new : Run) × (turn : Turn) × Applies (File caller number frame.now) self new turn × IfOk result (λ run. run ≡ new)
-            × (calls_of self.line.filers turn.calls ≡ [])
-            × Gives (E.given notes.old) (E.given notes.new) result (turn_lines turn) }
+        ensures applied { HasFiled (File caller number frame.now) self result (E.given notes.old) (E.given notes.new) }
         ensures cause { HasCause (E.faults notes.old) (E.faults notes.new) result }
         ensures kin { E.kin notes.old notes.new }
     {
@@ -160,9 +147,7 @@ impl Run {
     ) -> Result<Run, Failed>
         requires caller { caller < self.line.filers }
         requires filers { length self.filers.items ≡ self.line.filers }
-        ensures applied { (new : Run) × (turn : Turn) × Applies (Datagram caller at octets.now) self new turn × IfOk result (λ run. run ≡ new)
-            × (calls_of self.line.filers turn.calls ≡ [])
-            × Gives (E.given notes.old) (E.given notes.new) result (turn_lines turn) }
+        ensures applied { HasFiled (Datagram caller at octets.now) self result (E.given notes.old) (E.given notes.new) }
         ensures cause { HasCause (E.faults notes.old) (E.faults notes.new) result }
         ensures kin { E.kin notes.old notes.new }
     {

@@ -1,13 +1,12 @@
 // The command `simulate`: a script becomes the player's journal, or the speech that is heard.
-ghost use Rattle.std.specs.Prelude.{◌≡◌, ◌≤◌, ◌⊎◌, ◌++◌, List, codes, Err, IfOk};
+ghost use Rattle.std.specs.Prelude.{◌≡◌, ◌≤◌, ◌⊎◌, List, Err, IfOk};
 ghost use Rattle.gate_base.specs.Faults.{HasCause, Rose};
 ghost use Rattle.gate_io.specs.Flow.{Gives};
-ghost use Rattle.recorder.specs.declared.events.ScriptEvent.{ScriptEvent};
-ghost use Rattle.script_runs.specs.Calls.{Turn, opening_callers};
-ghost use Rattle.gate_notes.specs.Notes.{play_line, tally_line};
-ghost use Rattle.gate_notes.specs.Exchange.{Exchange};
+ghost use Rattle.script_runs.specs.Calls.{opening_callers};
+ghost use Rattle.gate_notes.specs.Notes.{tallies_text};
+ghost use Rattle.gate_notes.specs.Exchange.{GiveFailed, exchange_of};
 ghost use Rattle.script_runs.specs.Playing.{end_text};
-ghost use Rattle.script_runs.specs.Ran.{Finishes, IsOpened, IsStarted, Ran, StopsAt};
+ghost use Rattle.script_runs.specs.Ran.{Finishes, HasRun, IsOpened, IsStarted, StopsAt};
 ghost use Rattle.script_runs.specs.Simulate.{Completes, Ends, Stops};
 
 use crate::filers::new_filers;
@@ -31,12 +30,11 @@ fn run_events<I: Source, O: Sink, E: Sink>(
     notes: &mut E,
 ) -> Result<Run, Stop>
     requires { IsStarted head.now reader.old start }
-    ensures ran { (events : List ScriptEvent) × (turns : List Turn)
-        × Ran head.now playback.old playback.new (I.left input.old) (O.given output.old) (O.given output.new) (E.given notes.old) (E.given notes.new) result events turns }
+    ensures ran { HasRun head.now playback.old playback.new (exchange_of I.Source O.Sink E.Sink input.old output.old output.new notes.old notes.new) result }
     ensures stops { StopsAt result head.now playback.old playback.new (I.left input.old) (I.left input.new) (O.given output.old) (O.given output.new) (E.given notes.old) (E.given notes.new) }
     ensures later { (I.faults input.old ≤ I.faults input.new) × (O.faults output.old ≤ O.faults output.new) × (E.faults notes.old ≤ E.faults notes.new) }
     ensures read { result ≡ Err Stop.ReadFault → Rose (I.faults input.old) (I.faults input.new) }
-    ensures write { result ≡ Err Stop.WriteFault → Rose (O.faults output.old) (O.faults output.new) ⊎ Rose (E.faults notes.old) (E.faults notes.new) }
+    ensures write { result ≡ Err Stop.WriteFault → GiveFailed O.Sink E.Sink output.old output.new notes.old notes.new }
     ensures kin { O.kin output.old output.new × E.kin notes.old notes.new }
 {
     let mut run = start;
@@ -55,9 +53,9 @@ fn run_events<I: Source, O: Sink, E: Sink>(
 
 // Gives the output's end and the summary.
 fn finish<O: Sink, E: Sink>(run: &Run, playback: &Playback, output: &mut O, notes: &mut E) -> Status
-    ensures finishes { Finishes result (O.given output.old) (O.given output.new) (E.given notes.old) (E.given notes.new) (end_text playback.now) (play_line run.now.played ++ tally_line (codes "all") run.now.filed) }
+    ensures finishes { Finishes result (O.given output.old) (O.given output.new) (E.given notes.old) (E.given notes.new) (end_text playback.now) (tallies_text run.now.played run.now.filed) }
     ensures later { (O.faults output.old ≤ O.faults output.new) × (E.faults notes.old ≤ E.faults notes.new) }
-    ensures write { result ≡ Status.WriteFault → Rose (O.faults output.old) (O.faults output.new) ⊎ Rose (E.faults notes.old) (E.faults notes.new) }
+    ensures write { result ≡ Status.WriteFault → GiveFailed O.Sink E.Sink output.old output.new notes.old notes.new }
     ensures kin { O.kin output.old output.new × E.kin notes.old notes.new }
 {
     match playback.end(output) {
@@ -98,28 +96,12 @@ pub fn simulate<I: Source, O: Sink, E: Sink>(
     output: &mut O,
     notes: &mut E,
 ) -> Status
-    ensures ends { let x : Exchange = record {
-      input = I.left input.old;
-      output = O.given output.old;
-      output_now = O.given output.new;
-      notes = E.given notes.old;
-      notes_now = E.given notes.new;
-      noted = E.faults notes.old;
-      noted_now = E.faults notes.new;
-    } in Ends voice result x }
-    ensures stops { let x : Exchange = record {
-      input = I.left input.old;
-      output = O.given output.old;
-      output_now = O.given output.new;
-      notes = E.given notes.old;
-      notes_now = E.given notes.new;
-      noted = E.faults notes.old;
-      noted_now = E.faults notes.new;
-    } in Stops voice result x (I.left input.new) }
+    ensures ends { Ends voice result (exchange_of I.Source O.Sink E.Sink input.old output.old output.new notes.old notes.new) }
+    ensures stops { Stops voice result (exchange_of I.Source O.Sink E.Sink input.old output.old output.new notes.old notes.new) (I.left input.new) }
     ensures later { (I.faults input.old ≤ I.faults input.new) × (O.faults output.old ≤ O.faults output.new) × (E.faults notes.old ≤ E.faults notes.new) }
     ensures read { result ≡ Status.ReadFault → Rose (I.faults input.old) (I.faults input.new) }
-    ensures write { result ≡ Status.WriteFault → Rose (O.faults output.old) (O.faults output.new) ⊎ Rose (E.faults notes.old) (E.faults notes.new) }
-    ensures complete { Completes result (I.left input.old) (Rose (I.faults input.old) (I.faults input.new) ⊎ Rose (O.faults output.old) (O.faults output.new) ⊎ Rose (E.faults notes.old) (E.faults notes.new)) }
+    ensures write { result ≡ Status.WriteFault → GiveFailed O.Sink E.Sink output.old output.new notes.old notes.new }
+    ensures complete { Completes result (I.left input.old) (Rose (I.faults input.old) (I.faults input.new) ⊎ GiveFailed O.Sink E.Sink output.old output.new notes.old notes.new) }
     ensures kin { O.kin output.old output.new × E.kin notes.old notes.new }
 {
     // A script is never refused.

@@ -1,11 +1,22 @@
 -- What the loop over frames does.
-use Rattle.std.specs.Prelude.{ℕ, ◌≡◌, List, [], length, take, ℤ, Option, Some, Result, Ok, Err, IfSome}
+use Rattle.std.specs.Prelude.{ℕ, ◌≡◌, List, [], ◌∷◌, ◌++◌, length, take, ℤ, Option, Some, Result, Ok, Err, IfSome}
 use Rattle.std.specs.Io.KnownBytes.{Appends}
-use Rattle.gate_io.specs.Flow.{AppendsPart}
+use Rattle.gate_io.specs.Flow.{AppendsPart, Gives}
+use Rattle.frame_codec.specs.Frame.{Fields, IsWithinWidths, Spells}
+use Rattle.fr_decoder.specs.Decoding.{Decodes, Kept}
 use Rattle.speech_files.specs.Decode.{BeginsWith, IsDecoded, frame_fault}
 use Rattle.substitution.specs.Heard.{sample_octets}
 use Rattle.gate_notes.specs.declared.stop.Stop.{Stop}
 use Rattle.gate_notes.specs.declared.stop.Stop.TheVariants.{Refused, ReadFault, WriteFault}
+
+-- a decoder has gone on by these fields, and this is their speech
+abbrev pub DecodesNext : Kept → Kept → Fields → List ℤ → Type 0
+DecodesNext old new p speech = (frames : List Fields) (samples : List ℤ) → Decodes frames samples old → Decodes (frames ++ p ∷ []) (samples ++ speech) new
+
+-- a frame was decoded, and its speech was given, or a front of it where the give failed
+abbrev pub GivesSpeechOf : {T E : Type 0} → List ℕ → Kept → Kept → Option (List ℕ) → Option (List ℕ) → Result T E → Type 0
+GivesSpeechOf frame old new before now result =
+    (p : Fields) × (speech : List ℤ) × Spells frame p × IsWithinWidths p × DecodesNext old new p speech × Gives before now result (sample_octets speech)
 
 -- what stands behind so many frames, by how the loop ended
 abbrev pub FollowsFrames : Result ℕ Stop → ℕ → List ℕ → Type 0

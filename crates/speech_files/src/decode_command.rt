@@ -1,16 +1,12 @@
 // The command `decode`: coded frames become speech.
-ghost use Rattle.std.specs.Prelude.{◌≡◌, ◌≤◌, ◌<◌, ◌⊎◌, ◌+◌, ◌++◌, List, [], ◌∷◌, ℤ, ℕ, Some, None, Ok, Err, IfOk, IfSome, IsErrOf, MatchResult, length, take};
+ghost use Rattle.std.specs.Prelude.{◌≡◌, ◌≤◌, ◌<◌, ◌⊎◌, ◌+◌, List, [], ℤ, ℕ, Some, None, Ok, Err, IfOk, IfSome, IsErrOf, MatchResult, length, take};
 ghost use Rattle.std.specs.Io.KnownBytes.{Consumes, IsAtEnd};
 ghost use Rattle.gate_base.specs.Faults.{HasCause, Rose};
-ghost use Rattle.gate_io.specs.Flow.{Gives};
 ghost use Rattle.frame_codec.specs.Octets.{IsFrame};
-ghost use Rattle.frame_codec.specs.Frame.{Fields, IsWithinWidths, Spells};
-ghost use Rattle.fr_decoder.specs.Decoding.{Decodes};
 ghost use Rattle.recorder.specs.Reader.{Tells};
-ghost use Rattle.gate_notes.specs.Exchange.{Exchange};
+ghost use Rattle.gate_notes.specs.Exchange.{GiveFailed, exchange_of};
 ghost use Rattle.speech_files.specs.Decode.{Completes, Ends, frame_fault, frame_limit};
-ghost use Rattle.speech_files.specs.DecodeRuns.{HasDecoded};
-ghost use Rattle.substitution.specs.Heard.{sample_octets};
+ghost use Rattle.speech_files.specs.DecodeRuns.{GivesSpeechOf, HasDecoded};
 
 use byteorder::{ByteOrder, LittleEndian};
 use fr_decoder::Decoder;
@@ -54,9 +50,7 @@ fn next_frame<I: Source>(count: u32, input: &mut I) -> Result<Option<Frame33>, R
 
 // Decodes a frame, and gives its speech.
 fn play_frame<O: Sink>(decoder: &mut Decoder, frame: &Frame33, output: &mut O) -> Result<(), Failed>
-    ensures played { (p : Fields) × (speech : List ℤ) × Spells frame.now p × IsWithinWidths p
-        × ((frames : List Fields) (samples : List ℤ) → Decodes frames samples decoder.old → Decodes (frames ++ p ∷ []) (samples ++ speech) decoder.new)
-        × Gives (O.given output.old) (O.given output.new) result (sample_octets speech) }
+    ensures played { GivesSpeechOf frame.now decoder.old decoder.new (O.given output.old) (O.given output.new) result }
     ensures cause { HasCause (O.faults output.old) (O.faults output.new) result }
     ensures kin { O.kin output.old output.new }
 {
@@ -96,19 +90,11 @@ fn decode_frames<I: Source, O: Sink>(input: &mut I, output: &mut O) -> Result<u3
 ///
 /// It takes no memory. A fault ends the run there, and what was given stays.
 pub fn decode<I: Source, O: Sink, E: Sink>(input: &mut I, output: &mut O, notes: &mut E) -> Status
-    ensures ends { let x : Exchange = record {
-      input = I.left input.old;
-      output = O.given output.old;
-      output_now = O.given output.new;
-      notes = E.given notes.old;
-      notes_now = E.given notes.new;
-      noted = E.faults notes.old;
-      noted_now = E.faults notes.new;
-    } in Ends result x }
+    ensures ends { Ends result (exchange_of I.Source O.Sink E.Sink input.old output.old output.new notes.old notes.new) }
     ensures later { (I.faults input.old ≤ I.faults input.new) × (O.faults output.old ≤ O.faults output.new) × (E.faults notes.old ≤ E.faults notes.new) }
     ensures read { result ≡ Status.ReadFault → Rose (I.faults input.old) (I.faults input.new) }
-    ensures write { result ≡ Status.WriteFault → Rose (O.faults output.old) (O.faults output.new) ⊎ Rose (E.faults notes.old) (E.faults notes.new) }
-    ensures complete { Completes result (I.left input.old) (Rose (I.faults input.old) (I.faults input.new) ⊎ Rose (O.faults output.old) (O.faults output.new) ⊎ Rose (E.faults notes.old) (E.faults notes.new)) }
+    ensures write { result ≡ Status.WriteFault → GiveFailed O.Sink E.Sink output.old output.new notes.old notes.new }
+    ensures complete { Completes result (I.left input.old) (Rose (I.faults input.old) (I.faults input.new) ⊎ GiveFailed O.Sink E.Sink output.old output.new notes.old notes.new) }
     ensures kin { O.kin output.old output.new × E.kin notes.old notes.new }
 {
     match decode_frames(input, output) {

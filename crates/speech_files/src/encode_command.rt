@@ -1,13 +1,9 @@
 // The command `encode`: speech becomes coded frames.
-ghost use Rattle.std.specs.Prelude.{◌≡◌, ◌≤◌, ◌⊎◌, ◌++◌, ◌∷◌, [], List, ℕ, ℤ, Err};
+ghost use Rattle.std.specs.Prelude.{◌≡◌, ◌≤◌, ◌⊎◌, List, ℕ, Err};
 ghost use Rattle.gate_base.specs.Faults.{HasCause, Rose};
-ghost use Rattle.gate_io.specs.Flow.{Gives};
-ghost use Rattle.frame_codec.specs.Frame.{Fields, IsWithinWidths, Spells};
-ghost use Rattle.frame_codec.specs.Octets.{IsFrame};
-ghost use Rattle.fr_encoder.specs.Coding.{Encodes};
 ghost use Rattle.speech_files.specs.Encode.{Completes, Ends};
-ghost use Rattle.speech_files.specs.EncodeRuns.{HasEncoded};
-ghost use Rattle.gate_notes.specs.Exchange.{Exchange};
+ghost use Rattle.speech_files.specs.EncodeRuns.{GivesFrameOf, HasEncoded};
+ghost use Rattle.gate_notes.specs.Exchange.{GiveFailed, exchange_of};
 
 use fr_encoder::Encoder;
 use frame_codec::pack;
@@ -25,9 +21,7 @@ fn code_piece<O: Sink>(
     samples: &[i16; 160],
     output: &mut O,
 ) -> Result<(), Failed>
-    ensures coded { (frame : List ℕ) × (p : Fields) × IsFrame frame × Spells frame p × IsWithinWidths p
-        × ((before : List ℤ) (frames : List Fields) → Encodes before frames encoder.old → Encodes (before ++ samples.now) (frames ++ p ∷ []) encoder.new)
-        × Gives (O.given output.old) (O.given output.new) result frame }
+    ensures coded { GivesFrameOf samples.now encoder.old encoder.new (O.given output.old) (O.given output.new) result }
     ensures cause { HasCause (O.faults output.old) (O.faults output.new) result }
     ensures kin { O.kin output.old output.new }
 {
@@ -67,19 +61,11 @@ fn code_pieces<I: Source, O: Sink>(input: &mut I, output: &mut O) -> Result<u32,
 ///
 /// It takes no memory. A fault ends the run there, and what was given stays.
 pub fn encode<I: Source, O: Sink, E: Sink>(input: &mut I, output: &mut O, notes: &mut E) -> Status
-    ensures ends { let x : Exchange = record {
-      input = I.left input.old;
-      output = O.given output.old;
-      output_now = O.given output.new;
-      notes = E.given notes.old;
-      notes_now = E.given notes.new;
-      noted = E.faults notes.old;
-      noted_now = E.faults notes.new;
-    } in Ends result x }
+    ensures ends { Ends result (exchange_of I.Source O.Sink E.Sink input.old output.old output.new notes.old notes.new) }
     ensures later { (I.faults input.old ≤ I.faults input.new) × (O.faults output.old ≤ O.faults output.new) × (E.faults notes.old ≤ E.faults notes.new) }
     ensures read { result ≡ Status.ReadFault → Rose (I.faults input.old) (I.faults input.new) }
-    ensures write { result ≡ Status.WriteFault → Rose (O.faults output.old) (O.faults output.new) ⊎ Rose (E.faults notes.old) (E.faults notes.new) }
-    ensures complete { Completes result (I.left input.old) (Rose (I.faults input.old) (I.faults input.new) ⊎ Rose (O.faults output.old) (O.faults output.new) ⊎ Rose (E.faults notes.old) (E.faults notes.new)) }
+    ensures write { result ≡ Status.WriteFault → GiveFailed O.Sink E.Sink output.old output.new notes.old notes.new }
+    ensures complete { Completes result (I.left input.old) (Rose (I.faults input.old) (I.faults input.new) ⊎ GiveFailed O.Sink E.Sink output.old output.new notes.old notes.new) }
     ensures kin { O.kin output.old output.new × E.kin notes.old notes.new }
 {
     match code_pieces(input, output) {
