@@ -36,7 +36,7 @@ pub record Fronts (samples : List ℤ) (codes : List (List ℕ)) (residual : Lis
   pub short_term : IsShortTerm samples codes residual
   pub carried : Carries samples codes residual kept
 
--- Behind any pieces, the samples of one more gave these codes of its ratios, and this residual.
+-- After any pieces, the samples of one more gave these codes of its ratios, and this residual.
 abbrev pub FrontsOn : Kept → Kept → List ℤ → List ℕ → List ℤ → Type 0
 FrontsOn old new piece larc d =
     (before : List ℤ) (codes : List (List ℕ)) (residual : List ℤ) → Fronts before codes residual old → Fronts (before ++ piece) (codes ++ larc ∷ []) (residual ++ d) new

@@ -6,7 +6,7 @@ use Rattle.gate_io.specs.Flow.{AppendsPart}
 use Rattle.gate_io.specs.declared.sink.Sink as sink
 use Rattle.gate_io.specs.declared.source.Source as source
 
--- The octets of the input as the command began, and of the output and the notes as it began and ended, where they are told.
+-- The octets of the input as the command began, and of the output and the notes as it began and ended, where they are known.
 -- And the count of the notes' faults, as it began and ended.
 pub record Exchange : Type 0 where
   pub input : Option (List ℕ)
@@ -31,17 +31,17 @@ Noted x text = Appends x.notes x.notes_now text
 abbrev pub NotedPart : Exchange → List ℕ → Type 0
 NotedPart x text = AppendsPart x.notes x.notes_now text
 
--- octets have gained this text, or a front of it where the count of faults rose
+-- octets have gained this text, or a prefix of it where the count of faults rose
 abbrev pub GainedUnlessFault : Option (List ℕ) → Option (List ℕ) → ℕ → ℕ → List ℕ → Type 0
 GainedUnlessFault old new before now text = Appends old new text ⊎ (AppendsPart old new text × Rose before now)
 
--- the notes have gained this text, or a front of it where a give to them failed
+-- the notes have gained this text, or a prefix of it where a give to them failed
 abbrev pub NotedUnlessFault : Exchange → List ℕ → Type 0
 NotedUnlessFault x text = GainedUnlessFault x.notes x.notes_now x.noted x.noted_now text
 
 -- ---- the output and the notes, apart from the inputs
 
--- The octets of the output and the notes as the command began and ended, where they are told.
+-- The octets of the output and the notes as the command began and ended, where they are known.
 -- And the count of the notes' faults, as it began and ended.
 pub record Giving : Type 0 where
   pub output : Option (List ℕ)
@@ -71,14 +71,14 @@ GaveNothing x = Keeps x.output x.output_now × Keeps x.notes x.notes_now
 abbrev pub GaveBoth : Giving → List ℕ → List ℕ → Type 0
 GaveBoth x output notes = Appends x.output x.output_now output × Appends x.notes x.notes_now notes
 
--- A give failed: one to the output, which has a front of its text, and the notes are as they were; or one to the notes,
--- which have a front of theirs, and the output has all of its text.
+-- A give failed: one to the output, which has a prefix of its text, and the notes are as they were; or one to the notes,
+-- which have a prefix of theirs, and the output has all of its text.
 abbrev pub GaveFront : Giving → List ℕ → List ℕ → Type 0
 GaveFront x output notes =
     (AppendsPart x.output x.output_now output × Keeps x.notes x.notes_now)
     ⊎ (Appends x.output x.output_now output × AppendsPart x.notes x.notes_now notes)
 
--- the output is as it was, and the notes have gained this text, or a front of it where a give to them failed
+-- the output is as it was, and the notes have gained this text, or a prefix of it where a give to them failed
 abbrev pub NotedAlone : Giving → List ℕ → Type 0
 NotedAlone x text = Keeps x.output x.output_now × GainedUnlessFault x.notes x.notes_now x.noted x.noted_now text
 

@@ -62,7 +62,7 @@ own_line who end.Empty = []
 own_line who (end.Stranger ssrc held) = decimal who ++ (counted (codes " stranger ") ssrc ++ (counted (codes " ") held ++ newline))
 own_line who (end.Filed n replies) = []
 
--- what the beats came to
+-- what the beats resulted in
 abbrev pub play_line : PlayTally → List ℕ
 play_line t = counted (codes "ticks ") t.ticks ++ (counted (codes " frames ") t.frames ++ (counted (codes " erasures ") t.erasures ++ (counted (codes " idle ") t.idle ++ newline)))
 
@@ -74,7 +74,7 @@ frame_words t = counted (codes " accepted ") t.accepted ++ (counted (codes " dup
 abbrev pub other_words : Tally → List ℕ
 other_words t = counted (codes " refused ") t.refused ++ (counted (codes " stranger ") t.stranger ++ (counted (codes " rtcp ") t.rtcp ++ counted (codes " empty ") t.empty))
 
--- what the datagrams and the frames came to, of whom it is said
+-- what the datagrams and the frames resulted in, of whom it is said
 abbrev pub tally_line : List ℕ → Tally → List ℕ
 tally_line whose t = whose ++ (counted (codes " datagrams ") t.datagrams ++ (frame_words t ++ (other_words t ++ newline)))
 
@@ -106,7 +106,7 @@ legal_line n = counted (codes "legal ") n ++ newline
 abbrev pub illegal_line : ℕ → ℕ → List ℕ
 illegal_line caller place = counted (codes "illegal ") caller ++ (counted (codes " ") place ++ newline)
 
--- who makes a call, where there are so many filers: a filer by its number, or the player
+-- who makes a call, where there are this many filers: a filer by its number, or the player
 abbrev pub caller_line : ℕ → ℕ → List ℕ
 caller_line filers who = (if who == filers then codes "p" else decimal who) ++ newline
 

@@ -11,7 +11,7 @@ use Rattle.journal_runs.specs.Render as render
 use Rattle.journal_runs.specs.Verify as verify
 use Rattle.journal_runs.specs.Make as make
 
--- what passed to the notes, where nothing is told of an output
+-- what passed to the notes, where nothing is known of an output
 abbrev pub noting : Option (List ℕ) → Option (List ℕ) → ℕ → ℕ → Giving
 noting before now faults faults_now = record { output = None; output_now = None; notes = before; notes_now = now; noted = faults; noted_now = faults_now }
 
@@ -39,7 +39,7 @@ EndsAs (Render seed) status inputs x = OfOne (λ input. render.Ends seed status 
 EndsAs Verify status inputs x = verify.Ends status inputs x
 EndsAs (Make seed count filers) status inputs x = OfNone (make.Ends seed count filers status x) inputs
 
--- where the inputs are in their grammars and none of the objects failed, the command comes to its end
+-- where the inputs are in their grammars and none of the objects failed, the command reaches its end
 abbrev pub CompletesAs : Command → Status → List (Option (List ℕ)) → Type 0 → Type 0
 CompletesAs (Simulate voice) status inputs failed = OfOne (λ input. simulate.Completes status input failed) inputs
 CompletesAs Decode status inputs failed = OfOne (λ input. decode.Completes status input failed) inputs
@@ -57,7 +57,7 @@ OfOneLeft P [] left = ⊥
 OfOneLeft P (input ∷ more ∷ inputs) left = ⊥
 
 -- where a command over files stops, by its inputs before and after: of a command over events what those that were read have given, of `verify` that the inputs
--- behind the one where the reading stopped are as they were
+-- after the one where the reading stopped are as they were
 abbrev pub StopsAs : {D : Type 0} → Command → Status → (D → Option (List ℕ)) → (D → ℕ) → List D → List D → Giving → Type 0
 StopsAs (Simulate voice) status left faults old new x = OfOneLeft (λ input rest. simulate.Stops voice status (over x input) rest) (map left old) (map left new)
 StopsAs (Render seed) status left faults old new x = OfOneLeft (λ input rest. render.StopsAt seed status (over x input) rest) (map left old) (map left new)

@@ -1,4 +1,4 @@
--- The objects of a line, and what the words of a line come to before they run.
+-- The objects of a line, and what the words of a line result in before they run.
 use Rattle.std.specs.Prelude.{◌≡◌, ◌⊎◌, ℕ, ◌+◌, List, length, map, Option, Some, None, true, false}
 use Rattle.std.specs.List.{AllByRecursion}
 use Rattle.std.specs.String.{string_bytes}
@@ -29,7 +29,7 @@ pub record IsFresh (life : ℕ) (s : SocketState) : Type 0 where
   pub ended : s.ended ≡ false
   pub faults : s.faults ≡ 0
 
--- so many such sockets
+-- this many such sockets
 pub record AreFresh (life count : ℕ) (sockets : List SocketState) : Type 0 where
   pub many : length sockets ≡ count
   pub fresh : AllByRecursion (IsFresh life) sockets
@@ -50,13 +50,13 @@ begun_at start s = record s { life = record s.life { begun = start } }
 abbrev pub Begins : Option ℕ → SocketState → Type 0
 Begins start s = s.life.begun ≡ start
 
--- a clock that is to give so many ticks, and gave none
+-- a clock that is to give this many ticks, and gave none
 pub record IsUnheard (ticks : ℕ) (c : TicksState) : Type 0 where
   pub given : c.ticks ≡ 0
   pub left : c.left ≡ ticks
   pub ended : c.ended ≡ false
 
--- so many sockets that listen and one for return speech, whose lives begin with a clock of so many ticks
+-- this many sockets that listen and one for return speech, whose lives begin with a clock of this many ticks
 pub record IsLive {I O J : Type 0} (ticks count : ℕ) (g : Gateway SocketState I O J TicksState) : Type 0 where
   pub links : AreFresh (lasting ticks) count g.links.items
   pub reply : IsReply (lasting ticks) g.reply
@@ -66,7 +66,7 @@ pub record IsLive {I O J : Type 0} (ticks count : ℕ) (g : Gateway SocketState 
 
 -- ---- files
 
--- files of which none has failed, and so many journals
+-- files of which none has failed, and this many journals
 pub record AreUnused (journals : ℕ) (s : Streams FileState FileState FileState) : Type 0 where
   pub microphone : s.microphone.faults ≡ 0
   pub speaker : s.speaker.faults ≡ 0
@@ -75,7 +75,7 @@ pub record AreUnused (journals : ℕ) (s : Streams FileState FileState FileState
 abbrev pub SystemGateway : Type 0
 SystemGateway = Gateway SocketState FileState FileState FileState TicksState
 
--- a gateway of so many ticks over so many links and journals, none of whose objects has failed
+-- a gateway of this many ticks over this many links and journals, none of whose objects has failed
 pub record IsOpened (ticks links journals : ℕ) (g : SystemGateway) : Type 0 where
   pub live : IsLive ticks links g
   pub files : AreUnused journals (record { microphone = g.microphone; speaker = g.speaker; journals = g.journals })
@@ -90,12 +90,12 @@ IsQuiet x = Keeps x.notes x.notes_now
 abbrev pub IsRefused : Status → Giving → Type 0
 IsRefused status x = ((status ≡ Usage) × GainedUnlessFault x.notes x.notes_now x.noted x.noted_now usage_line) ⊎ ((status ≡ OutOfMemory) × IsQuiet x)
 
--- ---- what the words come to
+-- ---- what the words result in
 
 abbrev pub SystemStarted : Type 0
 SystemStarted = Started FileState FileState SystemGateway
 
--- a command over files of these words: so many inputs, and an output that has not failed
+-- a command over files of these words: this many inputs, and an output that has not failed
 pub record AreOpen (words : List Text) (count : ℕ) (o : FilesOpen FileState FileState) : Type 0 where
   pub said : map string_bytes o.words.items ≡ words
   pub inputs : length o.inputs.items ≡ count
@@ -108,7 +108,7 @@ IsOpenedAt words p (Files o) = (p.serve ≡ false) × AreOpen words (length p.in
 IsOpenedAt words p (Serve o) =
     (p.serve ≡ true) × (map string_bytes o.words.items ≡ words) × IsOpened p.ticks (length p.links.items) (length p.journals.items) o.gateway
 
--- Words that are no line are refused. Those of a command over files come to its files, and those of serve to its gateway, but for want
+-- Words that are no line are refused. Those of a command over files result in its files, and those of serve to its gateway, but for want
 -- of memory.
 abbrev pub Starts : List Text → Option Said → SystemStarted → Giving → Type 0
 Starts words None (Ended status) x = IsRefused status x
@@ -122,7 +122,7 @@ Starts words (Some (line.Serve said)) (Files o) x = ⊥
 Starts words (Some (line.Serve said)) (Serve o) x =
     (map string_bytes o.words.items ≡ words) × IsOpened said.options.ticks (length said.listen) (length said.listen + 1) o.gateway × IsQuiet x
 
--- ---- what it comes to when it runs
+-- ---- what it results in when it runs
 
 -- where the words have ended already, this holds of their status
 abbrev pub IfEnded : {I O G : Type 0} → Started I O G → (Status → Type 0) → Type 0
@@ -130,7 +130,7 @@ IfEnded (Ended status) holds = holds status
 IfEnded (Files o) holds = Unit {0}
 IfEnded (Serve o) holds = Unit {0}
 
--- where they came to a command over files, they still do, and this holds of its files before and after
+-- where they resulted in a command over files, they still do, and this holds of its files before and after
 abbrev pub IfFiles : {I O G : Type 0} → Started I O G → Started I O G → (FilesOpen I O → FilesOpen I O → Type 0) → Type 0
 IfFiles (Ended status) after holds = Unit {0}
 IfFiles (Serve o) after holds = Unit {0}
@@ -138,7 +138,7 @@ IfFiles (Files o) (Ended status) holds = ⊥
 IfFiles (Files o) (Serve p) holds = ⊥
 IfFiles (Files o) (Files p) holds = holds o p
 
--- where they came to a gateway, they still do, and this holds of its objects before and after
+-- where they resulted in a gateway, they still do, and this holds of its objects before and after
 abbrev pub IfServe : {I O G : Type 0} → Started I O G → Started I O G → (ServeOpen G → ServeOpen G → Type 0) → Type 0
 IfServe (Ended status) after holds = Unit {0}
 IfServe (Files o) after holds = Unit {0}

@@ -18,12 +18,12 @@ pub record AreFilePlaces (said : FilesSaid) (p : Places) : Type 0 where
   pub journals : map string_bytes p.journals.items ≡ []
   pub ticks : p.ticks ≡ 0
 
--- the names of so many filers' journals, from filer k on: the prefix, a dot and the filer's number
+-- the names of this many filers' journals, from filer k on: the prefix, a dot and the filer's number
 abbrev pub journals_from : Text → ℕ → ℕ → List Text
 journals_from prefix k zero = []
 journals_from prefix k (suc n) = (prefix ++ (codes "." ++ decimal k)) ∷ journals_from prefix (k + 1) n
 
--- the names of a line's journals: the player's, and one for each of so many filers
+-- the names of a line's journals: the player's, and one for each of this many filers
 abbrev pub journals_of : Text → ℕ → List Text
 journals_of prefix filers = (prefix ++ codes ".player") ∷ journals_from prefix 0 filers
 

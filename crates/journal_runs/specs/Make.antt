@@ -11,8 +11,8 @@ use Rattle.gate_notes.specs.Notes.{tallies_text}
 use Rattle.gate_notes.specs.declared.status.Status.{Status}
 use Rattle.gate_notes.specs.declared.status.Status.TheVariants.{Done, Illegal, Usage, Input, ReadFault, WriteFault, LinkFault, OutOfMemory}
 
--- What each status says. Where a give failed the output has a front of the script and the notes are as they were, or the
--- output has all of it and the notes have a front of the summary.
+-- What each status says. Where a give failed the output has a prefix of the script and the notes are as they were, or the
+-- output has all of it and the notes have a prefix of the summary.
 abbrev pub Ends : ℕ → ℕ → ℕ → Status → Giving → Type 0
 Ends seed count filers Done x = (plays : PlayTally) × (tally : Tally) × AreTallies seed count filers plays tally
     × GaveBoth x (made_script seed count filers) (tallies_text plays tally)
@@ -27,6 +27,6 @@ Ends seed count filers Input x = ⊥
 Ends seed count filers ReadFault x = ⊥
 Ends seed count filers LinkFault x = ⊥
 
--- where none of the objects failed, the command comes to its end, or finds no memory
+-- where none of the objects failed, the command reaches its end, or runs out of memory
 abbrev pub Completes : Status → Type 0 → Type 0
 Completes status failed = ¬ failed → (status ≡ Done) ⊎ (status ≡ OutOfMemory)

@@ -26,12 +26,12 @@ Ends seed Usage x = ⊥
 Ends seed Illegal x = ⊥
 Ends seed LinkFault x = ⊥
 
--- where the input is a whole journal and none of the objects failed, the command comes to its end
+-- where the input is a whole journal and none of the objects failed, the command reaches its end
 abbrev pub Completes : Status → Option (List ℕ) → Type 0 → Type 0
 Completes status input failed = (octets : List ℕ) (j : PlayerRecord) → input ≡ Some octets → IsPlayerJournal octets j → ¬ failed → status ≡ Done
 
 -- Where the journal has a fault or a read failed, what all events that were read play was given; where a give of speech failed, what all but the last play,
--- and a front of what that one plays; where that of the notes failed, all.
+-- and a prefix of what that one plays; where that of the notes failed, all.
 abbrev pub StopsAt : List ℕ → Status → Exchange → Option (List ℕ) → Type 0
 StopsAt seed Done x left = Unit {0}
 StopsAt seed Input x left = StopsReading seed x.input left x.output x.output_now

@@ -46,7 +46,7 @@ TellJournals (player ∷ filers) p fs = TellsPlayer player p × TellFilers filer
 abbrev pub fitting : Bool → ℕ → Option RecordFault → Option RecordFault
 fitting fits at rest = if fits then rest else Some (Field at)
 
--- the field of the player's head that does not fit so many filers' journals
+-- the field of the player's head that does not fit this many filers' journals
 abbrev pub player_misfit : ℕ → Heading → Option RecordFault
 player_misfit filers h = fitting (h.filers == filers) 8 None
 
@@ -58,7 +58,7 @@ filer_misfit h k f =
     (fitting (f.head.delay == h.delay) 10
     (fitting (f.caller == k) 12 None)))
 
--- the player's input has this fault: of its octets, or of its head behind which so many inputs come
+-- the player's input has this fault: of its octets, or of its head after which this many inputs come
 abbrev pub PlayerHasFault : ℕ → Option (List ℕ) → RecordFault → Type 0
 PlayerHasFault filers input fault =
     IfSome input (λ octets. HasPlayerFault octets fault)
@@ -88,7 +88,7 @@ HasFirstFault (player ∷ filers) (suc k) fault =
 
 -- ---- the verdict
 
--- the inputs are the journals of one line of so many filers, and this is the verdict on them
+-- the inputs are the journals of one line of this many filers, and this is the verdict on them
 pub record HasVerdict (inputs : List (Option (List ℕ))) (filers : ℕ) (v : Verdict) : Type 0 where
   pub player : PlayerRecord
   pub journals : List FilerRecord
@@ -120,22 +120,22 @@ Ends OutOfMemory inputs x = GaveNothing x
 Ends Usage inputs x = ⊥
 Ends LinkFault inputs x = ⊥
 
--- where the inputs are the journals of one line, and none of the objects failed, the command comes to a verdict, or finds no memory
+-- where the inputs are the journals of one line, and none of the objects failed, the command reaches a verdict, or runs out of memory
 abbrev pub Completes : Status → List (Option (List ℕ)) → Type 0 → Type 0
 Completes status inputs failed = (p : PlayerRecord) (fs : List FilerRecord) → AllByRecursion IsSome inputs → TellJournals inputs p fs → AreOfOneLine fs p → ¬ failed
     → (status ≡ Done) ⊎ (status ≡ Illegal) ⊎ (status ≡ OutOfMemory)
 
 -- ---- where the reading of the inputs stopped, by the counts of their faults
 
--- the inputs behind this place are as they were
+-- the inputs after this place are as they were
 abbrev pub KeepsBehind : {D : Type 0} → ℕ → List D → List D → Type 0
 KeepsBehind place old new = drop (suc place) new ≡ drop (suc place) old
 
--- the count of the input at some place rose, and the inputs behind that place are as they were
+-- the count of the input at some place rose, and the inputs after that place are as they were
 abbrev pub FailsAtInput : {D : Type 0} → (D → ℕ) → List D → List D → Type 0
 FailsAtInput faults old new = (place : ℕ) × (place < length old) × Rose (slice_index (map faults old) place) (slice_index (map faults new) place) × KeepsBehind place old new
 
--- the inputs behind the one where the reading stopped are as they were: behind the first with a fault, of which the notes have the line, or behind one whose count rose
+-- the inputs after the one where the reading stopped are as they were: after the first with a fault, of which the notes have the line, or after one whose count rose
 abbrev pub StopsAtInput : {D : Type 0} → Status → List (Option (List ℕ)) → (D → ℕ) → List D → List D → (List ℕ → Type 0) → Type 0
 StopsAtInput Input lefts faults old new noted = (place : ℕ) × (fault : RecordFault) × HasFirstFault lefts place fault × noted (fault_line place fault) × KeepsBehind place old new
 StopsAtInput ReadFault lefts faults old new noted = FailsAtInput faults old new

@@ -31,7 +31,7 @@ AreUnread inputs (unread.Fault place fault) = HasFirstFault inputs place fault
 AreUnread inputs unread.ReadFault = Unit {0}
 AreUnread inputs unread.OutOfMemory = Unit {0}
 
--- the inputs behind the one that stopped the reading are as they were: behind the faulty one, or behind one whose count of faults rose
+-- the inputs after the one that stopped the reading are as they were: after the faulty one, or after one whose count of faults rose
 abbrev pub LeavesBehind : {D : Type 0} → (D → ℕ) → Unread → List D → List D → Type 0
 LeavesBehind faults (unread.Fault place fault) old new = KeepsBehind place old new
 LeavesBehind faults unread.ReadFault old new = FailsAtInput faults old new
@@ -43,7 +43,7 @@ LeavesFilersBehind faults (unread.Fault place fault) old new = (k : ℕ) × (pla
 LeavesFilersBehind faults unread.ReadFault old new = FailsAtInput faults old new
 LeavesFilersBehind faults unread.OutOfMemory old new = Unit {0}
 
--- the status for it, and what the notes have gained, or a front of that where a give failed
+-- the status for it, and what the notes have gained, or a prefix of that where a give failed
 abbrev pub IsRefused : Unread → Status → Option (List ℕ) → Option (List ℕ) → ℕ → ℕ → Type 0
 IsRefused (unread.Fault place fault) s notes notes_now noted noted_now = (s ≡ status.Input) × GainedUnlessFault notes notes_now noted noted_now (fault_line place fault)
 IsRefused unread.ReadFault s notes notes_now noted noted_now = (s ≡ status.ReadFault) × Keeps notes notes_now

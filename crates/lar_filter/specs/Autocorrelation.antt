@@ -8,7 +8,7 @@ use Rattle.fixed_arith.specs.Sums.{sum_below, greatest_of}
 unfoldable pub scale_of : ℤ → ℕ
 scale_of top = if unsigned_abs top == 0 then 0 else 4 - norm_of (unsigned_abs top * 65536)
 
--- a sample scaled down by so many places, rounded
+-- a sample scaled down by this many places, rounded
 unfoldable pub scaled_word : ℕ → ℤ → ℤ
 scaled_word zero x = x
 scaled_word (suc n) x = mult_r_words x (pos (16384 / 2 ^ n))

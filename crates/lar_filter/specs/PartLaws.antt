@@ -16,7 +16,7 @@ IsFed-same rp other first from values inputs fed same = record {
   samples = fed.samples;
 }
 
--- inputs behind one another are fed with the values behind one another
+-- inputs after one another are fed with the values after one another
 pub IsFed-append : (rp : ℕ → ℕ → ℤ) (first : ℕ) (xs ys : List ℤ) (ins outs : List (List ℤ × ℤ)) → IsFed rp first xs ins → IsFed rp (first + length xs) ys outs → IsFed rp first (xs ++ ys) (ins ++ outs)
 IsFed-append rp first xs ys ins outs front back = record {
   count = omega (arith, length-append ins outs, length-append xs ys, front.count, back.count);

@@ -23,7 +23,7 @@ pub record IsFed (rp : ℕ → ℕ → ℤ) (first : ℕ) (values : List ℤ) (i
   pub coefficients : (i k : ℕ) → i < 8 → k < length values → at (coefficients_at inputs k) i ≡ rp i (first + k)
   pub samples : (k : ℕ) → k < length values → sample_at inputs k ≡ at values k
 
--- The values of a frame went through a filter of this step behind the inputs, and all that went through solves the filter's equations.
+-- The values of a frame went through a filter of this step after the inputs, and all that went through solves the filter's equations.
 pub record PassesFrame (Step : List ℤ → List ℤ → ℤ → ℤ → List ℤ → Type 0) (Solves : List ℤ → List (List ℤ × ℤ) → List ℤ → List ℤ → Type 0)
     (before now values start : List ℤ) (inputs : List (List ℤ × ℤ)) (ys after : List ℤ) : Type 0 where
   pub more : List (List ℤ × ℤ)
@@ -31,7 +31,7 @@ pub record PassesFrame (Step : List ℤ → List ℤ → ℤ → ℤ → List �
   pub run : Runs Step start (inputs ++ more) ys after
   pub equations : Solves start (inputs ++ more) ys after
 
--- Behind any samples that went through and left the filter so, the values of a frame gave these samples.
+-- After any samples that went through and left the filter so, the values of a frame gave these samples.
 abbrev pub ExtendsByFrame : (List ℤ → List ℤ → ℤ → ℤ → List ℤ → Type 0) → (List ℤ → List (List ℤ × ℤ) → List ℤ → List ℤ → Type 0)
     → List ℤ → List ℤ → List ℤ → List ℤ → List ℤ → List ℤ → Type 0
 ExtendsByFrame Step Solves before now values kept given after =

@@ -16,7 +16,7 @@ next_p r p k (suc m) = add_words (p (suc m + 1)) (mult_r_words (k (suc m)) r)
 unfoldable pub next_k : ℤ → (ℕ → ℤ) → (ℕ → ℤ) → ℕ → ℤ
 next_k r p k m = add_words (k m) (mult_r_words (p (m + 1)) r)
 
--- the coefficients of so many turns: all are 0 from the turn on where p(0) is below the magnitude of p(1)
+-- the coefficients of this many turns: all are 0 from the turn on where p(0) is below the magnitude of p(1)
 unfoldable pub quotients : ℕ → (ℕ → ℤ) → (ℕ → ℤ) → List ℤ
 quotients zero p k = []
 quotients (suc turns) p k =

@@ -12,7 +12,7 @@ Runs Step before (input ∷ inputs) [] after = ⊥
 abbrev pub inputs_of : List ℤ → List ℤ → List (List ℤ × ℤ)
 inputs_of coefficients samples = map (λ x. (coefficients, x)) samples
 
--- Behind any samples that went through and left the filter so, these inputs gave these samples: of the whole, what is stated holds to this end.
+-- After any samples that went through and left the filter so, these inputs gave these samples: of the whole, what is stated holds to this end.
 abbrev pub Extends : (List ℤ → List ℤ → ℤ → ℤ → List ℤ → Type 0) → (List ℤ → List (List ℤ × ℤ) → List ℤ → List ℤ → Type 0)
     → List ℤ → List (List ℤ × ℤ) → List ℤ → List ℤ → Type 0
 Extends Step Holds kept more given after =

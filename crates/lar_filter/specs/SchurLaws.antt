@@ -159,7 +159,7 @@ Reflects-start values r size zeros = record {
   told = refl;
 }
 
--- behind the eighth turn, all coefficients are there
+-- after the eighth turn, all coefficients are there
 pub Reflects-whole : (values p k r : List ℤ) (n : ℕ) → n ≡ 8 → Reflects values p k r n → r ≡ quotients 8 (at values) (at values)
 Reflects-whole values p k r n end done =
     let none : 8 - n ≡ 0 = omega arith in

@@ -1,4 +1,4 @@
--- What the callers of a line have, and what they come to.
+-- What the callers of a line have, and what they result in.
 use Rattle.std.specs.Prelude.{◌≡◌, ◌⊎◌, ℕ, ◌+◌, ◌<◌, ◌≤◌, List, [], ◌∷◌, length, Option, Some, slice_get, slice_set, Bool, true}
 use mathlib.Core.Option.{some}
 use lib.ListN.{get_elem?}
@@ -50,7 +50,7 @@ HasRightsFrom first last rights = (i : ℕ) → first ≤ i → i ≤ last → s
 
 -- ---- after they ran
 
--- a filer's pass is back, with the calls of what it came to, and its journal is kin to what it was
+-- a filer's pass is back, with the calls of what it resulted in, and its journal is kin to what it was
 pub record CallerRan {P J : Type 0} (l : LineSeen) (ring : Where) (link : P → LinkSeen) (sink : J → SinkSeen) (kin : J → J → Type 0) (a : Caller) (p : P) (j : J) (a' : Caller) (p' : P) (j' : J) : Type 0 where
   pub pass : PassView
   pub has : a'.pass ≡ Some pass
@@ -59,7 +59,7 @@ pub record CallerRan {P J : Type 0} (l : LineSeen) (ring : Where) (link : P → 
   pub came : FilerCame l.filers l.options a.number (link p) (sink j) (link p') (sink j') pass.list a'.end a'.tally
   pub journal : kin j j'
 
--- the player's pass is back, with the calls of what it came to
+-- the player's pass is back, with the calls of what it resulted in
 pub record PlayerRan (l : LineSeen) (ring : Where) (a : PlayerSeen) (j : SinkSeen) (b : PlayerSeen) (j' : SinkSeen) (c' : PlayerCaller) : Type 0 where
   pub pass : PassView
   pub has : c'.pass ≡ Some pass

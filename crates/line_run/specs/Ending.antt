@@ -1,4 +1,4 @@
--- When all callers of a line come to their ends.
+-- When all callers of a line reach their ends.
 use Rattle.std.specs.Prelude.{◌≡◌, ℕ, List}
 use mathlib.Core.Option.{some}
 use lib.ListN.{get_elem?}
@@ -8,7 +8,7 @@ use Rattle.filer.specs.declared.run.FilerEnd.{FilerEnd}
 use Rattle.filer.specs.declared.run.FilerEnd.TheVariants.{Ended}
 use Rattle.line_run.specs.Seen.{PlayerSeen}
 
--- every filer came to its end
+-- every filer reached its end
 abbrev pub AllEnded : List (FilerEnd × Tally) → Type 0
 AllEnded filers = (i : ℕ) (end : FilerEnd) (tally : Tally) → get_elem? filers i ≡ some (end, tally) → end ≡ Ended
 

@@ -1,4 +1,4 @@
--- What one filer of a line comes to.
+-- What one filer of a line results in.
 use Rattle.std.specs.Prelude.{◌≡◌, ◌⊎◌, ℕ, ◌≤◌, List, [], ◌∷◌, ◌++◌, true}
 use Rattle.std.specs.Io.KnownBytes.{Appends}
 use Rattle.gate_base.specs.Faults.{Rose}
@@ -38,7 +38,7 @@ pub record FilerUnread (filers : ℕ) (o : LineOptions) (who : ℕ) (p : LinkSee
   pub none : calls ≡ []
   pub counted : tally ≡ no_tally
 
--- what filer `who` comes to, and why it ended so
+-- what filer `who` results in, and why it ended so
 pub record FilerCame (filers : ℕ) (o : LineOptions) (who : ℕ) (p : LinkSeen) (j : SinkSeen) (p' : LinkSeen) (j' : SinkSeen) (calls : List Call) (end : FilerEnd) (tally : Tally) : Type 0 where
   pub came : FilerWent filers o who p j p' j' calls end tally ⊎ FilerUnread filers o who p j p' j' calls end tally
   pub link_later : p.faults ≤ p'.faults

@@ -1,4 +1,4 @@
--- What a whole line comes to: one legal history holds the calls of all its callers.
+-- What a whole line results in: one legal history holds the calls of all its callers.
 use Rattle.std.specs.Prelude.{◌≡◌, ℕ, ◌+◌, ◌^◌, ◌<◌, ◌≤◌, List, Some, slice_get, length}
 use mathlib.Core.Option.{some}
 use lib.ListN.{get_elem?}
@@ -16,7 +16,7 @@ use Rattle.line_run.specs.Playing.{PlayerCame}
 use Rattle.line_run.specs.Seen.{LinkSeen, SinkSeen, PlayerSeen}
 
 -- The history is legal for the ring, and each caller in it is a filer or the player, whose number is that of the filers. Filer i, over link i and the journal
--- behind the player's, came to the end and the tally that are told of it, with its calls in the history; so did the player. What is left are the frames of the
+-- after the player's, reached the end and the tally that are reported of it, with its calls in the history; so did the player. What is left are the frames of the
 -- machine after the history, in rising number, and the lists that the ring gathered are the callers' lists of the history.
 pub record LineRan {P J : Type 0} (l : LineSeen) (link : P → LinkSeen) (sink : J → SinkSeen) (ps : List P) (js : List J) (ps' : List P) (js' : List J) (a b : PlayerSeen) (player : PlayerEnd) (played : PlayTally) (filers : List (FilerEnd × Tally)) (left : LeftView) : Type 0 where
   pub h : List Entry

@@ -46,11 +46,11 @@ objects links reply microphone speaker journals clock = record {
 abbrev pub player_of : {P I O J C : Type 0} → LinkKind P → SourceKind I → SinkKind O → ClockKind C → LineObjects P I O J C → PlayerSeen
 player_of of_p of_i of_o of_c a = player_seen of_c of_o of_i of_p a.clock a.speaker a.microphone a.reply
 
--- the line ran over these objects, which are those now, and came to this end
+-- the line ran over these objects, which are those now, and reached this end
 abbrev pub RanOver : {P I O J C : Type 0} → LinkKind P → SourceKind I → SinkKind O → SinkKind J → ClockKind C → LineSeen → LineObjects P I O J C → LineObjects P I O J C → LineEnd → Type 0
 RanOver of_p of_i of_o of_j of_c l a b e = LineRan l (link_seen of_p) (sink_seen of_j) a.links a.journals b.links b.journals (player_of of_p of_i of_o of_c a) (player_of of_p of_i of_o of_c b) e.player e.played e.filers e.left
 
--- where the count of none of the objects rose, all callers came to their ends
+-- where the count of none of the objects rose, all callers resulted in their ends
 abbrev pub EndsUnlessFault : {P I O J C : Type 0} → LinkKind P → SourceKind I → SinkKind O → SinkKind J → ClockKind C → LineObjects P I O J C → LineObjects P I O J C → LineEnd → Type 0
 EndsUnlessFault of_p of_i of_o of_j of_c a b e =
     NoneRose of_p.faults a.links b.links → NoneRose of_j.faults a.journals b.journals → PlayerNone (player_of of_p of_i of_o of_c a) (player_of of_p of_i of_o of_c b)

@@ -1,4 +1,4 @@
--- What the player of a line comes to.
+-- What the player of a line results in.
 use Rattle.std.specs.Prelude.{◌≡◌, ◌⊎◌, ℕ, ◌+◌, ◌≤◌, List, [], true}
 use Rattle.std.specs.Io.KnownBytes.{Appends}
 use Rattle.gate_base.specs.Faults.{Rose}
@@ -14,7 +14,7 @@ use Rattle.line_run.specs.declared.options.LineOptions.{LineOptions}
 use Rattle.line_run.specs.Opening.{heading}
 use Rattle.line_run.specs.Seen.{PlayerSeen, SinkSeen}
 
--- the player's objects, with the journal behind its head or as it is
+-- the player's objects, with the journal after its head or as it is
 abbrev pub ports : PlayerSeen → SinkSeen → Ports
 ports a journal = record { heard = a.speaker.given; written = journal.given; left = a.microphone.left; log = a.reply.log }
 
@@ -42,7 +42,7 @@ pub record PlayerUnread (filers : ℕ) (o : LineOptions) (a : PlayerSeen) (j : S
   pub none : calls ≡ []
   pub counted : tally ≡ no_plays
 
--- what the player comes to, and why it ended so
+-- what the player results in, and why it ended so
 pub record PlayerCame (filers : ℕ) (o : LineOptions) (a : PlayerSeen) (j : SinkSeen) (b : PlayerSeen) (j' : SinkSeen) (calls : List Call) (end : PlayerEnd) (tally : PlayTally) : Type 0 where
   pub came : PlayerWent filers o a j b j' calls end tally ⊎ PlayerUnread filers o a j b j' calls end tally
   pub speaker_later : a.speaker.faults ≤ b.speaker.faults

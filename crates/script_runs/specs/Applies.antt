@@ -38,9 +38,9 @@ Applies e old new turn = Makes (IsTurn old.line.filers e) old new turn
 abbrev pub Plays : Bool → Run → Run → Turn → Type 0
 Plays opened old new turn = Makes (IsBeat opened old.line.filers) old new turn
 
--- ---- what is given of a turn: all of it, or a front where a give failed
+-- ---- what is given of a turn: all of it, or a prefix where a give failed
 
--- a playback has gone on by the player's calls of the turn, on a line of so many filers, which gave this text
+-- a playback has gone on by the player's calls of the turn, on a line of this many filers, which gave this text
 abbrev pub PlaysTurn : ℕ → Turn → Playback → Playback → List ℕ → Type 0
 PlaysTurn filers turn before after text = GoesOn (flat_map call_text (calls_of filers turn.calls)) (flat_map call_items (calls_of filers turn.calls)) before after text
 

@@ -1,4 +1,4 @@
--- What the events of a script come to: the calls that they make, and the ends of their datagrams.
+-- What the events of a script result in: the calls that they make, and the ends of their datagrams.
 use Rattle.std.specs.Prelude.{ℕ, ◌≡◌, ◌-◌, ◌<◌, ◌^◌, List, [], ◌∷◌, map, replicate, slice_get, slice_set, Bool, true, false, Some, None, ◌⊎◌}
 use Rattle.std.specs.List.{flat_map}
 use Rattle.frame_codec.specs.declared.item.Item.{Item}
@@ -24,7 +24,7 @@ pub record Ended : Type 0 where
   pub who : ℕ
   pub end : OutcomeEnd
 
--- what one event came to: its calls with their replies, and the end of its datagram where it is one
+-- what one event resulted in: its calls with their replies, and the end of its datagram where it is one
 pub record Turn : Type 0 where
   pub calls : List Entry
   pub ends : List Ended
@@ -76,14 +76,14 @@ pub record IsDatagram (caller at : ℕ) (octets : List ℕ) (before : Callers) (
   pub made : turn ≡ record { calls = made_by caller (takes.calls_of known octets at outcome); ends = record { who = caller; end = outcome.end } ∷ [] }
   pub left : after ≡ record before { filers = slice_set before.filers caller later }
 
--- What an event comes to, whatever is replied. The player's number is that of the filers. A File is its caller's bare call, and changes nothing that its filer knows.
+-- What an event results in, whatever is replied. The player's number is that of the filers. A File is its caller's bare call, and changes nothing that its filer knows.
 abbrev pub IsTurn : ℕ → ScriptEvent → Callers → Turn → Callers → Type 0
 IsTurn filers Tick before turn after = IsTick filers before turn after
 IsTurn filers (File caller number frame) before turn after = (reply : FileReply) × (turn ≡ bare (entry caller (FileCall number frame reply) ∷ [])) × (after ≡ before)
 IsTurn filers (Datagram caller at octets) before turn after = IsDatagram caller at octets before turn after
 IsTurn filers Beat before turn after = IsBeat before.ticked filers before turn after
 
--- what the events come to, in the events' order
+-- what the events result in, in the events' order
 abbrev pub AreTurns : ℕ → Callers → List ScriptEvent → List Turn → Callers → Type 0
 AreTurns filers before [] [] after = after ≡ before
 AreTurns filers before [] (t ∷ ts) after = ⊥
@@ -98,7 +98,7 @@ history_of turns = flat_map (λ (t : Turn). t.calls) turns
 abbrev pub ends_of : List Turn → List Ended
 ends_of turns = flat_map (λ (t : Turn). t.ends) turns
 
--- a line of so many filers can make the calls of the event
+-- a line of this many filers can make the calls of the event
 abbrev pub IsCallable : ℕ → ScriptEvent → Type 0
 IsCallable filers Tick = Unit {0}
 IsCallable filers (File caller number frame) = (caller < filers) × (number < 2 ^ 47)

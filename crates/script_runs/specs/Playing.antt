@@ -24,7 +24,7 @@ ending (Some seed) = []
 
 -- ---- a playback, which makes that text piece by piece
 
--- what a playback gives before the first call, and behind the last
+-- what a playback gives before the first call, and after the last
 abbrev pub front_text : Playback → Heading → List ℕ
 front_text Journal h = head_text play_magic h
 front_text (Pcm voice) h = []
@@ -33,7 +33,7 @@ abbrev pub end_text : Playback → List ℕ
 end_text Journal = end_mark ∷ []
 end_text (Pcm voice) = []
 
--- a playback stands behind the events of a journal and the items of the same calls, of which the output has this text
+-- a playback stands after the events of a journal and the items of the same calls, of which the output has this text
 abbrev pub Stands : Option (List ℕ) → List ℕ → List Item → List ℕ → Playback → Type 0
 Stands None journal items text Journal = text ≡ journal
 Stands None journal items text (Pcm voice) = ⊥

@@ -39,14 +39,14 @@ pub record IsStarted (h : Heading) (reader : Progress) (run : Run) : Type 0 wher
   pub read : reader ≡ headed (Ok h)
   pub opened : IsOpened h run
 
--- what stands behind the events, by how the loop ended
+-- what stands after the events, by how the loop ended
 abbrev pub Follows : Result Run Stop → Heading → List ScriptEvent → List ℕ → Type 0
 Follows (Ok run) h events rest = (more : List ℕ) × (rest ≡ end_mark ∷ more)
 Follows (Err (Refused f)) h events rest = fault_after h events rest ≡ Some f
 Follows (Err ReadFault) h events rest = Unit {0}
 Follows (Err WriteFault) h events rest = Unit {0}
 
--- what an object has of its text: all of it, and where a give failed a front
+-- what an object has of its text: all of it, and where a give failed a prefix
 abbrev pub Has : Result Run Stop → Option (List ℕ) → Option (List ℕ) → List ℕ → Type 0
 Has (Ok run) before now text = Appends before now text
 Has (Err (Refused f)) before now text = Appends before now text
@@ -63,7 +63,7 @@ HasCounted (Err stop) h turns = Unit {0}
 abbrev pub Plays : Heading → List Turn → Playback → Playback → List ℕ → Type 0
 Plays h turns before after text = GoesOn (flat_map call_text (calls_of h.filers (history_of turns))) (flat_map call_items (calls_of h.filers (history_of turns))) before after text
 
--- the events were read and came to these turns, and what they give was given
+-- the events were read and resulted in these turns, and what they give was given
 pub record Ran (h : Heading) (playback playback_now : Playback) (input before now notes notes_now : Option (List ℕ)) (result : Result Run Stop) (events : List ScriptEvent) (turns : List Turn) : Type 0 where
   pub fit : AllByRecursion (EventFits h) events
   pub few : length events ≤ event_limit
@@ -81,7 +81,7 @@ pub record Ran (h : Heading) (playback playback_now : Playback) (input before no
 abbrev pub HasRun : Heading → Playback → Playback → Exchange → Result Run Stop → Type 0
 HasRun h playback playback_now x result = (events : List ScriptEvent) × (turns : List Turn) × Ran h playback playback_now x.input x.output x.output_now x.notes x.notes_now result events turns
 
--- A give failed in an event's turn. The events were read up to that one: what the turns before it give was given, and a front of what its own turn gives.
+-- A give failed in an event's turn. The events were read up to that one: what the turns before it give was given, and a prefix of what its own turn gives.
 pub record Breaks (h : Heading) (playback playback_now : Playback) (input left before now notes notes_now : Option (List ℕ)) : Type 0 where
   pub events : List ScriptEvent
   pub turns : List Turn
@@ -97,7 +97,7 @@ pub record Breaks (h : Heading) (playback playback_now : Playback) (input left b
   pub given : (k : ℕ) × Appends before now (played ++ take k more)
   pub noted : (k : ℕ) × Appends notes notes_now (run_lines turns ++ take k (turn_lines turn))
 
--- The reading stopped behind these events: what their turns give was given, and no more than an event's octets were taken behind them.
+-- The reading stopped after these events: what their turns give was given, and no more than an event's octets were taken after them.
 pub record Halts (h : Heading) (playback playback_now : Playback) (input left before now notes notes_now : Option (List ℕ)) : Type 0 where
   pub events : List ScriptEvent
   pub turns : List Turn
@@ -115,7 +115,7 @@ StopsAt (Err (Refused f)) h playback playback_now input left before now notes no
 StopsAt (Err ReadFault) h playback playback_now input left before now notes notes_now = Halts h playback playback_now input left before now notes notes_now
 StopsAt (Err WriteFault) h playback playback_now input left before now notes notes_now = Breaks h playback playback_now input left before now notes notes_now
 
--- the output's end and then the summary were given, or a front of the one whose give failed
+-- the output's end and then the summary were given, or a prefix of the one whose give failed
 abbrev pub Finishes : Status → Option (List ℕ) → Option (List ℕ) → Option (List ℕ) → Option (List ℕ) → List ℕ → List ℕ → Type 0
 Finishes status.Done before now notes notes_now last text = Appends before now last × Appends notes notes_now text
 Finishes status.WriteFault before now notes notes_now last text =

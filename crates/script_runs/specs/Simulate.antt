@@ -18,7 +18,7 @@ use Rattle.script_runs.specs.Playing.{IsPlayed, ending}
 use Rattle.gate_notes.specs.declared.status.Status.{Status}
 use Rattle.gate_notes.specs.declared.status.Status.TheVariants.{Done, Illegal, Usage, Input, ReadFault, WriteFault, LinkFault, OutOfMemory}
 
--- a head, events in their ranges, and what they come to with the machine's replies, in the events' order
+-- a head, events in their ranges, and what they result in with the machine's replies, in the events' order
 pub record IsRun (h : Heading) (events : List ScriptEvent) (turns : List Turn) : Type 0 where
   pub head : IsHeading h
   pub fit : AllByRecursion (EventFits h) events
@@ -46,7 +46,7 @@ Simulated voice x = (h : Heading) × (events : List ScriptEvent) × (turns : Lis
     × Gave x (text ++ ending voice)
     × Noted x (run_lines turns ++ summary h.filers turns)
 
--- the input has this first fault: in its head, where nothing is given, or behind some events, of which all is given
+-- the input has this first fault: in its head, where nothing is given, or after some events, of which all is given
 abbrev pub Refused : Option (List ℕ) → Exchange → Type 0
 Refused voice x = (f : RecordFault) × (
     (IfSome x.input (λ octets. head_fault script_magic (take 12 octets) ≡ Some f) × Keeps x.output x.output_now × NotedUnlessFault x (fault_line 0 f))
@@ -55,7 +55,7 @@ Refused voice x = (f : RecordFault) × (
     × Gave x text
     × NotedUnlessFault x (run_lines turns ++ fault_line 0 f)))
 
--- a read failed: in the head, or behind some events, of which all is given
+-- a read failed: in the head, or after some events, of which all is given
 abbrev pub Stopped : Option (List ℕ) → Exchange → Type 0
 Stopped voice x =
     (Keeps x.output x.output_now × Keeps x.notes x.notes_now)
@@ -64,13 +64,13 @@ Stopped voice x =
     × Gave x text
     × Noted x (run_lines turns))
 
--- behind the end mark one of the last gives failed: that of the output's end, before the summary; or that of the summary
+-- after the end mark one of the last gives failed: that of the output's end, before the summary; or that of the summary
 abbrev pub BrokenAtEnd : Option (List ℕ) → Heading → List Turn → List ℕ → Exchange → Type 0
 BrokenAtEnd voice h turns text x =
     (GavePart x (text ++ ending voice) × Noted x (run_lines turns))
     ⊎ (Gave x (text ++ ending voice) × NotedPart x (run_lines turns ++ summary h.filers turns))
 
--- A give failed: one of the head or of an event, where the output and the notes have a front of what the events give; or one behind the end
+-- A give failed: one of the head or of an event, where the output and the notes have a prefix of what the events give; or one after the end
 -- mark.
 abbrev pub Broken : Option (List ℕ) → Exchange → Type 0
 Broken voice x = (h : Heading) × (events : List ScriptEvent) × (turns : List Turn) × (text : List ℕ) × IsRun h events turns × IsPlayedOf voice h turns text
@@ -88,13 +88,13 @@ Ends voice Usage x = ⊥
 Ends voice Illegal x = ⊥
 Ends voice LinkFault x = ⊥
 
--- where the input is a script and none of the objects failed, the command comes to its end, or finds no memory
+-- where the input is a script and none of the objects failed, the command reaches its end, or runs out of memory
 abbrev pub Completes : Status → Option (List ℕ) → Type 0 → Type 0
 Completes status input failed = (octets : List ℕ) (h : Heading) (events : List ScriptEvent) → input ≡ Some octets → IsScript octets h events → ¬ failed → (status ≡ Done) ⊎ (status ≡ OutOfMemory)
 
 -- ---- where a run stopped, by what is left of the input then
 
--- The give of what stands before all events failed. The head was read, and a front of that was given.
+-- The give of what stands before all events failed. The head was read, and a prefix of that was given.
 pub record BreaksAtFront (voice : Option (List ℕ)) (x : Exchange) (left : Option (List ℕ)) : Type 0 where
   pub head : Heading
   pub is_head : IsHeading head
@@ -104,7 +104,7 @@ pub record BreaksAtFront (voice : Option (List ℕ)) (x : Exchange) (left : Opti
   pub gave : GavePart x text
   pub noted : Noted x []
 
--- A give failed in an event's turn. The script was read up to that event: what the turns before it give was given, and a front of what its own turn gives.
+-- A give failed in an event's turn. The script was read up to that event: what the turns before it give was given, and a prefix of what its own turn gives.
 pub record BreaksOff (voice : Option (List ℕ)) (x : Exchange) (left : Option (List ℕ)) : Type 0 where
   pub head : Heading
   pub events : List ScriptEvent
@@ -120,8 +120,8 @@ pub record BreaksOff (voice : Option (List ℕ)) (x : Exchange) (left : Option (
   pub gave : (k : ℕ) × Appends x.output x.output_now (text ++ take k more)
   pub noted : (k : ℕ) × Appends x.notes x.notes_now (run_lines turns ++ take k (turn_lines turn))
 
--- The reading stopped behind these events, and no more than an event's octets were taken behind them. What their turns give was given; the notes have the line of
--- the fault behind it, or a front of that, where there is one.
+-- The reading stopped after these events, and no more than an event's octets were taken after them. What their turns give was given; the notes have the line of
+-- the fault after it, or a prefix of that, where there is one.
 pub record StopsShort (voice : Option (List ℕ)) (x : Exchange) (left : Option (List ℕ)) : Type 0 where
   pub head : Heading
   pub events : List ScriptEvent
@@ -133,7 +133,7 @@ pub record StopsShort (voice : Option (List ℕ)) (x : Exchange) (left : Option 
   pub gave : Gave x text
   pub noted : (line : List ℕ) × Noted x (run_lines turns ++ line)
 
--- the input is a whole script, and a give behind its end mark failed
+-- the input is a whole script, and a give after its end mark failed
 pub record BreaksBehind (voice : Option (List ℕ)) (x : Exchange) : Type 0 where
   pub head : Heading
   pub events : List ScriptEvent
@@ -144,11 +144,11 @@ pub record BreaksBehind (voice : Option (List ℕ)) (x : Exchange) : Type 0 wher
   pub played : IsPlayedOf voice head turns text
   pub broken : BrokenAtEnd voice head turns text x
 
--- nothing was given, and no more than a head's octets were taken; or the reading stopped behind some events
+-- nothing was given, and no more than a head's octets were taken; or the reading stopped after some events
 abbrev pub StopsReading : Option (List ℕ) → Exchange → Option (List ℕ) → Type 0
 StopsReading voice x left = (Keeps x.output x.output_now × ConsumesFewer 13 x.input left) ⊎ StopsShort voice x left
 
--- Where the script has a fault or a read failed, what all events that were read give was given; where a give failed, what all but the last give, and a front
+-- Where the script has a fault or a read failed, what all events that were read give was given; where a give failed, what all but the last give, and a prefix
 -- of what that one gives.
 abbrev pub Stops : Option (List ℕ) → Status → Exchange → Option (List ℕ) → Type 0
 Stops voice Done x left = Unit {0}

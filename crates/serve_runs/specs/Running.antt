@@ -19,11 +19,11 @@ use Rattle.serve_runs.specs.Serve.{StatusFollows, fault_of_ends, line_options, s
 
 -- ---- the words
 
--- whether the words are a line of serve for so many links and journals
+-- whether the words are a line of serve for this many links and journals
 abbrev pub fits_over : {P J X Y Z V : Type 0} → Vec (String X) Y → Vec P Z → Vec J V → Bool
 fits_over words links journals = fits_serve (map string_bytes words.items) (length links.items) (length journals.items)
 
--- this is the line of the words, for so many links and journals
+-- this is the line of the words, for this many links and journals
 abbrev pub IsLineOf : List Text → ℕ → ℕ → LineSeen → Type 0
 IsLineOf words links journals l =
     (said : ServeSaid) × (line_of words ≡ Some (Serve said)) × (l.filers ≡ length said.listen) × (l.options ≡ line_options said.options)
@@ -36,7 +36,7 @@ abbrev pub Untouched : {L P I O J C : Type 0} → L → P → I → O → J → 
 Untouched links reply microphone speaker journals clock links' reply' microphone' speaker' journals' clock' =
     (links' ≡ links) × (reply' ≡ reply) × (microphone' ≡ microphone) × (speaker' ≡ speaker) × (journals' ≡ journals) × (clock' ≡ clock)
 
--- the line of the words ran over these objects, which are those now, and came to this end, where it came to one
+-- the line of the words ran over these objects, which are those now, and reached this end, where it resulted in one
 abbrev pub ServeRan : {P I O J C X Y : Type 0} → LinkKind P → SourceKind I → SinkKind O → SinkKind J → ClockKind C → Vec (String X) Y → LineObjects P I O J C → LineObjects P I O J C → Option LineEnd → Type 0
 ServeRan of_p of_i of_o of_j of_c words a b end = IfSome end (λ e.
     (said : ServeSaid) × (line_of (map string_bytes words.items) ≡ Some (Serve said))
@@ -57,7 +57,7 @@ SomeFailed of_p of_i of_o of_j of_e a b notes notes' =
     Rose (of_i.faults a.microphone) (of_i.faults b.microphone) ⊎ Rose (of_o.faults a.speaker) (of_o.faults b.speaker) ⊎ SomeRose (map of_j.faults a.journals) (map of_j.faults b.journals)
     ⊎ Rose (of_e.faults notes) (of_e.faults notes') ⊎ SomeRose (map of_p.faults a.links) (map of_p.faults b.links) ⊎ Rose (of_p.faults a.reply) (of_p.faults b.reply)
 
--- where the words fit the objects and no count rose, the line is done, but for want of memory
+-- where the words fit the objects and no count rose, the line is done, unless memory is out
 abbrev pub DoneUnlessFault : {P I O J E C X Y : Type 0} → LinkKind P → SourceKind I → SinkKind O → SinkKind J → SinkKind E → Vec (String X) Y → LineObjects P I O J C → LineObjects P I O J C → E → E → Status → Type 0
 DoneUnlessFault of_p of_i of_o of_j of_e words a b notes notes' status =
     fits_serve (map string_bytes words.items) (length a.links) (length a.journals) ≡ true
@@ -66,7 +66,7 @@ DoneUnlessFault of_p of_i of_o of_j of_e words a b notes notes' status =
 
 -- ---- the notes
 
--- the notes have gained this text, or a front of it where a give to them failed
+-- the notes have gained this text, or a prefix of it where a give to them failed
 abbrev pub NotesGained : {E : Type 0} → SinkKind E → E → E → List ℕ → Type 0
 NotesGained of_e notes notes' text = GainedUnlessFault (of_e.given notes) (of_e.given notes') (of_e.faults notes) (of_e.faults notes') text
 

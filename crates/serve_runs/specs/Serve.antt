@@ -1,4 +1,4 @@
--- What `serve` comes to: the status that follows from the ends of its callers, and its notes.
+-- What `serve` results in: the status that follows from the ends of its callers, and its notes.
 use Rattle.std.specs.Prelude.{ℕ, ◌≡◌, ◌⊎◌, ◌+◌, List, [], ◌∷◌, ◌++◌, Option, Some, None, codes}
 use Rattle.command_line.specs.declared.line.ServeOptions.{ServeOptions}
 use Rattle.recorder.specs.declared.tally.Tally.{Tally}
@@ -55,6 +55,6 @@ abbrev pub link_lines : ℕ → List (FilerEnd × Tally) → List ℕ
 link_lines k [] = []
 link_lines k (f ∷ fs) = tally_line (counted (codes "link ") k) f.1 ++ link_lines (k + 1) fs
 
--- what the player's beats came to, and then the filers' datagrams
+-- what the player's beats resulted in, and then the filers' datagrams
 abbrev pub serve_lines : PlayTally → List (FilerEnd × Tally) → List ℕ
 serve_lines played filers = play_line played ++ link_lines 0 filers

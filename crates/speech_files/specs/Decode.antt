@@ -12,7 +12,7 @@ use Rattle.substitution.specs.Heard.{sample_octets}
 use Rattle.gate_notes.specs.declared.status.Status.{Status}
 use Rattle.gate_notes.specs.declared.status.Status.TheVariants.{Done, Illegal, Usage, Input, ReadFault, WriteFault, LinkFault, OutOfMemory}
 
--- so many frames a run takes at most
+-- this many frames a run takes at most
 abbrev pub frame_limit : ℕ
 frame_limit = 16777216
 
@@ -20,7 +20,7 @@ frame_limit = 16777216
 abbrev pub coded : List (List ℕ) → List ℕ
 coded frames = flat_map (λ (frame : List ℕ). frame) frames
 
--- the fault that stands behind so many frames, where these octets follow, 33 of them at most
+-- the fault that stands after this many frames, where these octets follow, 33 of them at most
 abbrev pub frame_fault : ℕ → List ℕ → Option RecordFault
 frame_fault count [] = None
 frame_fault count (octet ∷ octets) =
@@ -54,19 +54,19 @@ Decoded x = (frames : List (List ℕ)) × (samples : List ℤ) × IsDecoded fram
     × IfSome x.input (BeginsWith frames (λ rest. rest ≡ []))
     × Gave x (sample_octets samples) × Noted x (frames_line (length frames))
 
--- behind some frames the input has this fault; the output has the speech of the frames
+-- after some frames the input has this fault; the output has the speech of the frames
 abbrev pub Refused : Exchange → Type 0
 Refused x = (f : RecordFault) × (frames : List (List ℕ)) × (samples : List ℤ) × IsDecoded frames samples
     × IfSome x.input (BeginsWith frames (λ rest. frame_fault (length frames) (take 33 rest) ≡ Some f))
     × Gave x (sample_octets samples) × NotedUnlessFault x (fault_line 0 f)
 
--- a read failed behind some frames
+-- a read failed after some frames
 abbrev pub Stopped : Exchange → Type 0
 Stopped x = (frames : List (List ℕ)) × (samples : List ℤ) × IsDecoded frames samples
     × IfSome x.input (BeginsWith frames (λ rest. Unit {0}))
     × Gave x (sample_octets samples) × Noted x []
 
--- A give failed: one of some frames' speech, of which the output has a front, and nothing is noted; or that of the count behind the
+-- A give failed: one of some frames' speech, of which the output has a prefix, and nothing is noted; or that of the count after the
 -- input's end, and the output has all of the speech.
 abbrev pub Broken : Exchange → Type 0
 Broken x = (frames : List (List ℕ)) × (samples : List ℤ) × IsDecoded frames samples
@@ -84,6 +84,6 @@ Ends Usage x = ⊥
 Ends Illegal x = ⊥
 Ends LinkFault x = ⊥
 
--- where the input is whole frames, not too many, and none of the objects failed, the command comes to its end
+-- where the input is whole frames, not too many, and none of the objects failed, the command reaches its end
 abbrev pub Completes : Status → Option (List ℕ) → Type 0 → Type 0
 Completes status input failed = (frames : List (List ℕ)) → input ≡ Some (coded frames) → AllByRecursion IsFrame frames → length frames ≤ frame_limit → ¬ failed → status ≡ Done

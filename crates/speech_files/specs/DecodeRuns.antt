@@ -13,19 +13,19 @@ use Rattle.gate_notes.specs.declared.stop.Stop.TheVariants.{Refused, ReadFault, 
 abbrev pub DecodesNext : Kept → Kept → Fields → List ℤ → Type 0
 DecodesNext old new p speech = (frames : List Fields) (samples : List ℤ) → Decodes frames samples old → Decodes (frames ++ p ∷ []) (samples ++ speech) new
 
--- a frame was decoded, and its speech was given, or a front of it where the give failed
+-- a frame was decoded, and its speech was given, or a prefix of it where the give failed
 abbrev pub GivesSpeechOf : {T E : Type 0} → List ℕ → Kept → Kept → Option (List ℕ) → Option (List ℕ) → Result T E → Type 0
 GivesSpeechOf frame old new before now result =
     (p : Fields) × (speech : List ℤ) × Spells frame p × IsWithinWidths p × DecodesNext old new p speech × Gives before now result (sample_octets speech)
 
--- what stands behind so many frames, by how the loop ended
+-- what stands after this many frames, by how the loop ended
 abbrev pub FollowsFrames : Result ℕ Stop → ℕ → List ℕ → Type 0
 FollowsFrames (Ok n) count rest = rest ≡ []
 FollowsFrames (Err (Refused f)) count rest = frame_fault count (take 33 rest) ≡ Some f
 FollowsFrames (Err ReadFault) count rest = Unit {0}
 FollowsFrames (Err WriteFault) count rest = Unit {0}
 
--- what the output has of the speech: all of it, and where a give failed a front
+-- what the output has of the speech: all of it, and where a give failed a prefix
 abbrev pub HasSpeech : Result ℕ Stop → Option (List ℕ) → Option (List ℕ) → List ℕ → Type 0
 HasSpeech (Ok n) before now text = Appends before now text
 HasSpeech (Err (Refused f)) before now text = Appends before now text

@@ -13,7 +13,7 @@ use Rattle.gate_notes.specs.Notes.{fault_line, frames_line}
 use Rattle.gate_notes.specs.declared.status.Status.{Status}
 use Rattle.gate_notes.specs.declared.status.Status.TheVariants.{Done, Illegal, Usage, Input, ReadFault, WriteFault, LinkFault, OutOfMemory}
 
--- each frame is the coded speech of the piece at its place, behind those before it; the last piece is filled with zeros
+-- each frame is the coded speech of the piece at its place, after those before it; the last piece is filled with zeros
 pub record IsEncoded (pieces frames : List (List ℕ)) : Type 0 where
   pub samples : List ℤ
   pub fields : List Fields
@@ -28,7 +28,7 @@ pub record IsEncoded (pieces frames : List (List ℕ)) : Type 0 where
 abbrev pub Begins : List (List ℕ) → (List ℕ → Type 0) → List ℕ → Type 0
 Begins pieces P octets = (rest : List ℕ) × CutsOff octets pieces rest × P rest
 
--- what stands behind so many pieces, where the command ended so
+-- what stands after this many pieces, where the command ended so
 abbrev pub Encoded : Exchange → Type 0
 Encoded x = (pieces frames : List (List ℕ)) × IsEncoded pieces frames × IfSome x.input (Begins pieces (λ rest. rest ≡ []))
     × Gave x (coded frames) × Noted x (frames_line (length frames))
@@ -38,12 +38,12 @@ abbrev pub Refused : Exchange → Type 0
 Refused x = (pieces frames : List (List ℕ)) × IsEncoded pieces frames × (length pieces ≡ frame_limit) × IfSome x.input (Begins pieces (λ rest. rest ≢ []))
     × Gave x (coded frames) × NotedUnlessFault x (fault_line 0 TooLong)
 
--- a read failed behind some pieces
+-- a read failed after some pieces
 abbrev pub Stopped : Exchange → Type 0
 Stopped x = (pieces frames : List (List ℕ)) × IsEncoded pieces frames × IfSome x.input (Begins pieces (λ rest. Unit {0}))
     × Gave x (coded frames) × Noted x []
 
--- A give failed: one of some pieces' frames, of which the output has a front, and nothing is noted; or that of the count behind the
+-- A give failed: one of some pieces' frames, of which the output has a prefix, and nothing is noted; or that of the count after the
 -- input's end, and the output has all of the frames.
 abbrev pub Broken : Exchange → Type 0
 Broken x = (pieces frames : List (List ℕ)) × IsEncoded pieces frames
@@ -61,6 +61,6 @@ Ends Usage x = ⊥
 Ends Illegal x = ⊥
 Ends LinkFault x = ⊥
 
--- where the input is not too long and none of the objects failed, the command comes to its end
+-- where the input is not too long and none of the objects failed, the command reaches its end
 abbrev pub Completes : Status → Option (List ℕ) → Type 0 → Type 0
 Completes status input failed = (octets : List ℕ) → input ≡ Some octets → length octets ≤ 320 * frame_limit → ¬ failed → status ≡ Done

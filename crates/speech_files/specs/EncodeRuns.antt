@@ -12,12 +12,12 @@ use Rattle.speech_files.specs.Encode.{Begins, IsEncoded}
 use Rattle.gate_notes.specs.declared.stop.Stop.{Stop}
 use Rattle.gate_notes.specs.declared.stop.Stop.TheVariants.{Refused, ReadFault, WriteFault}
 
--- samples were coded, and their frame was given, or a front of it where the give failed
+-- samples were coded, and their frame was given, or a prefix of it where the give failed
 abbrev pub GivesFrameOf : {T E : Type 0} → List ℤ → Held → Held → Option (List ℕ) → Option (List ℕ) → Result T E → Type 0
 GivesFrameOf samples old new before now result =
     (frame : List ℕ) × (p : Fields) × IsFrame frame × Spells frame p × IsWithinWidths p × EncodesNext old new samples p × Gives before now result frame
 
--- what stands behind the pieces, by how the loop ended
+-- what stands after the pieces, by how the loop ended
 abbrev pub FollowsPieces : Result ℕ Stop → List ℕ → Type 0
 FollowsPieces (Ok n) rest = rest ≡ []
 FollowsPieces (Err (Refused f)) rest = rest ≢ []
