@@ -2,13 +2,17 @@
 use Rattle.std.specs.Prelude.{◌≡◌, ◌⊎◌, ℕ, ◌+◌, List, length, map, Option, Some, None, true, false}
 use Rattle.std.specs.List.{AllByRecursion}
 use Rattle.std.specs.String.{string_bytes}
+use Rattle.std.specs.declared.string.String.{String}
+use Rattle.std.specs.declared.vec.Vec.{Vec}
 use Rattle.std.specs.Io.KnownBytes.{Keeps}
 use Rattle.gate_os.specs.Edges.{FileState, SocketState, TicksState, lasting}
 use Rattle.command_line.specs.Said.{Text}
-use Rattle.command_line.specs.Lines.{Said}
+use Rattle.command_line.specs.Lines.{Said, line_of}
 use Rattle.command_line.specs.declared.line.Line.TheVariants as line
 use Rattle.gate_notes.specs.Exchange.{GainedUnlessFault, Giving}
 use Rattle.gate_notes.specs.Notes.{usage_line}
+use Rattle.line_run.specs.Seen.{SinkKind}
+use Rattle.gsmgate.specs.Commands.{noting}
 use Rattle.gsmgate.specs.declared.gateway.Gateway.{Gateway}
 use Rattle.gsmgate.specs.declared.gateway.Streams.{Streams}
 use Rattle.gsmgate.specs.declared.places.Places.{Places}
@@ -122,7 +126,12 @@ Starts words (Some (line.Serve said)) (Files o) x = ⊥
 Starts words (Some (line.Serve said)) (Serve o) x =
     (map string_bytes o.words.items ≡ words) × IsOpened said.options.ticks (length said.listen) (length said.listen + 1) o.gateway × IsQuiet x
 
--- ---- what it results in when it runs
+-- so the words start, with the notes as they were and as they are now
+abbrev pub StartsFrom : {E X Y : Type 0} → SinkKind E → Vec (String X) Y → SystemStarted → E → E → Type 0
+StartsFrom of_e words started notes notes' =
+    Starts (map string_bytes words.items) (line_of (map string_bytes words.items)) started (noting (of_e.given notes) (of_e.given notes') (of_e.faults notes) (of_e.faults notes'))
+
+-- ---- what it comes to when it runs
 
 -- where the words have ended already, this holds of their status
 abbrev pub IfEnded : {I O G : Type 0} → Started I O G → (Status → Type 0) → Type 0

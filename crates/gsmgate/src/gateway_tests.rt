@@ -5,9 +5,12 @@ use gate_base::OutOfMemory;
 use gate_io::{Failed, Link, MemorySink, Received, Sink, Source};
 use gate_notes::Status;
 use std::alloc::{AllocError, Global};
+use std::fs::Files;
+use std::io::Print;
 use std::net::{Net, UdpSocket};
+use std::sync::Wait;
 use std::test::Fail;
-use std::time::Duration;
+use std::time::{Clock, Duration};
 use std::{env, fs, thread};
 
 // A socket at an address, which waits ten seconds for a datagram, and the text of the address with its port.
@@ -43,7 +46,7 @@ fn noted(notes: &MemorySink, text: &str) -> bool {
 }
 
 // Whether a file has these octets. It is removed. (The helpers answer plainly: each `?` of a test lets all its objects go.)
-fn had<R: fs::Files + AllocGlobal>(rt: &R, path: &str, octets: &[u8]) -> bool {
+fn had<R: Files + AllocGlobal>(rt: &R, path: &str, octets: &[u8]) -> bool {
     let same = match fs::read(rt, path) {
         Ok(found) => *found.as_slice() == *octets,
         Err(_) => false,
@@ -52,7 +55,7 @@ fn had<R: fs::Files + AllocGlobal>(rt: &R, path: &str, octets: &[u8]) -> bool {
 }
 
 // Whether all these files were there. They are removed.
-fn remove_all<R: fs::Files>(rt: &R, paths: &[&str]) -> bool {
+fn remove_all<R: Files>(rt: &R, paths: &[&str]) -> bool {
     let mut all = true;
     for path in paths {
         all &= fs::remove_file(rt, *path).is_ok();
@@ -113,6 +116,77 @@ fn begins<I: Source>(source: &mut I, octets: &[u8; 4]) -> bool {
     source.take(&mut piece) == Ok(4) && piece == *octets
 }
 
+// Whether one link is idle, another could not be bound, and the reply sends what is spoken.
+fn sockets_serve<P: Link>(links: &mut Vec<P>, reply: &mut P) -> bool {
+    answer_at(links, 0) == Some(Ok(Received::Idle))
+        && answer_at(links, 1) == Some(Err(Failed))
+        && reply.send(b"spoken") == Ok(())
+}
+
+// Whether a microphone has what is said, and a speaker and three journals take what is heard and filed.
+fn files_serve<I: Source, O: Sink, J: Sink>(
+    microphone: &mut I,
+    speaker: &mut O,
+    journals: &mut Vec<J>,
+) -> bool {
+    begins(microphone, b"said")
+        && speaker.give(b"heard") == Ok(())
+        && gives_at(journals, 0, b"played")
+        && gives_at(journals, 1, b"first")
+        && gives_at(journals, 2, b"second")
+}
+
+// Whether the objects of a line of two links serve, each at its place.
+fn all_serve<R: Net + Clock + Wait + Files + Print + Sync + AllocGlobal>(
+    rt: &R,
+    words: Vec<String>,
+    notes: &mut MemorySink,
+) -> bool {
+    let Started::Serve(mut open) = start(rt, Ok(words), notes) else {
+        return false;
+    };
+    let gateway = &mut open.gateway;
+    let sockets = sockets_serve(&mut gateway.links, &mut gateway.reply);
+    let files = files_serve(
+        &mut gateway.microphone,
+        &mut gateway.speaker,
+        &mut gateway.journals,
+    );
+    sockets && files
+}
+
+// Whether the reply of a line sends what is spoken.
+fn sends<R: Net + Clock + Wait + Files + Print + Sync + AllocGlobal>(
+    rt: &R,
+    words: Vec<String>,
+    notes: &mut MemorySink,
+) -> bool {
+    let Started::Serve(mut open) = start(rt, Ok(words), notes) else {
+        return false;
+    };
+    open.gateway.reply.send(b"spoken") == Ok(())
+}
+
+// Whether the first link and the reply both answer this.
+fn both_answer<P: Link>(links: &mut Vec<P>, reply: &mut P, received: Received) -> bool {
+    answer_at(links, 0) == Some(Ok(received)) && answer(reply) == Ok(received)
+}
+
+// Whether the first link and the reply of a line answer this, 1300 ms after they were opened.
+fn answer_late<R: Net + Clock + Wait + Files + Print + Sync + AllocGlobal>(
+    rt: &R,
+    words: Vec<String>,
+    notes: &mut MemorySink,
+    received: Received,
+) -> bool {
+    let Started::Serve(mut open) = start(rt, Ok(words), notes) else {
+        return false;
+    };
+    thread::sleep(rt, Duration::from_millis(1300));
+    let gateway = &mut open.gateway;
+    both_answer(&mut gateway.links, &mut gateway.reply, received)
+}
+
 #[test]
 fn each_object_of_a_line_stands_at_its_place(rt: HostRuntime) -> Result<(), Fail> {
     let (socket, there) = peer(&rt, "127.0.0.1:0")?;
@@ -125,21 +199,8 @@ fn each_object_of_a_line_stands_at_its_place(rt: HostRuntime) -> Result<(), Fail
         "127.0.0.1:0 astray",
     )?;
     let mut notes = no_notes(rt.alloc())?;
-    let Started::Serve(mut open) = start(&rt, Ok(words), &mut notes) else {
-        return Err(Fail::from("no gateway"));
-    };
-    assert_eq!(rt;
-        answer_at(&mut open.gateway.links, 0),
-        Some(Ok(Received::Idle))
-    );
-    assert_eq!(rt; answer_at(&mut open.gateway.links, 1), Some(Err(Failed)));
-    assert_eq!(rt; open.gateway.reply.send(b"spoken"), Ok(()));
+    assert!(rt; all_serve(&rt, words, &mut notes));
     assert!(rt; hears(&socket, b"spoken"));
-    assert!(rt; begins(&mut open.gateway.microphone, b"said"));
-    assert_eq!(rt; open.gateway.speaker.give(b"heard"), Ok(()));
-    assert!(rt; gives_at(&mut open.gateway.journals, 0, b"played"));
-    assert!(rt; gives_at(&mut open.gateway.journals, 1, b"first"));
-    assert!(rt; gives_at(&mut open.gateway.journals, 2, b"second"));
     assert!(rt; had(&rt, "place.said", b"said") && had(&rt, "place.heard", b"heard"));
     assert!(rt; had(&rt, "place.player", b"played"));
     assert!(rt; had(&rt, "place.0", b"first") && had(&rt, "place.1", b"second"));
@@ -155,10 +216,7 @@ fn a_reply_by_the_later_protocol_is_sent_by_it(rt: HostRuntime) -> Result<(), Fa
     let (socket, there) = peer(&rt, "[::1]:0")?;
     let words = serve_words(rt.alloc(), "later", 1, there.as_str(), "127.0.0.1:0")?;
     let mut notes = no_notes(rt.alloc())?;
-    let Started::Serve(mut open) = start(&rt, Ok(words), &mut notes) else {
-        return Err(Fail::from("no gateway"));
-    };
-    assert_eq!(rt; open.gateway.reply.send(b"spoken"), Ok(()));
+    assert!(rt; sends(&rt, words, &mut notes));
     assert!(rt; hears(&socket, b"spoken"));
     assert!(rt; remove_all(&rt, &["later.heard", "later.player", "later.0"]));
     Ok(())
@@ -171,10 +229,7 @@ fn return_speech_leaves_from_the_first_socket(rt: HostRuntime) -> Result<(), Fai
     let listen = format!(in rt.alloc(); "{here} 127.0.0.1:0")?;
     let words = serve_words(rt.alloc(), "first", 500, there.as_str(), listen.as_str())?;
     let mut notes = no_notes(rt.alloc())?;
-    let Started::Serve(mut open) = start(&rt, Ok(words), &mut notes) else {
-        return Err(Fail::from("no gateway"));
-    };
-    assert_eq!(rt; open.gateway.reply.send(b"spoken"), Ok(()));
+    assert!(rt; sends(&rt, words, &mut notes));
     assert!(rt; hears_from(&rt, &socket, here.as_str()));
     assert!(rt; remove_all(&rt, &["first.heard", "first.player", "first.0", "first.1"]));
     Ok(())
@@ -186,23 +241,8 @@ fn sockets_live_a_second_longer_than_their_ticks(rt: HostRuntime) -> Result<(), 
     let short = serve_words(alloc, "short", 10, "127.0.0.1:9", "127.0.0.1:0")?;
     let long = serve_words(alloc, "long", 1000, "127.0.0.1:9", "127.0.0.1:0")?;
     let mut notes = no_notes(alloc)?;
-    let (Started::Serve(mut short), Started::Serve(mut long)) = (
-        start(&rt, Ok(short), &mut notes),
-        start(&rt, Ok(long), &mut notes),
-    ) else {
-        return Err(Fail::from("no gateway"));
-    };
-    thread::sleep(&rt, Duration::from_millis(1300));
-    assert_eq!(rt;
-        answer_at(&mut short.gateway.links, 0),
-        Some(Ok(Received::Ended))
-    );
-    assert_eq!(rt; answer(&mut short.gateway.reply), Ok(Received::Ended));
-    assert_eq!(rt;
-        answer_at(&mut long.gateway.links, 0),
-        Some(Ok(Received::Idle))
-    );
-    assert_eq!(rt; answer(&mut long.gateway.reply), Ok(Received::Idle));
+    assert!(rt; answer_late(&rt, short, &mut notes, Received::Ended));
+    assert!(rt; answer_late(&rt, long, &mut notes, Received::Idle));
     assert!(rt;
         remove_all(
             &rt,
@@ -230,9 +270,11 @@ fn a_line_runs_over_sockets_and_files(rt: HostRuntime) -> Result<(), Fail> {
     let packet = octets_of(rt.alloc(), "800300000000000000000001 zeros")?;
     let words = serve_words(rt.alloc(), "line", 3, there.as_str(), "127.0.0.1:0")?;
     let mut notes = no_notes(rt.alloc())?;
-    let mut started = start(&rt, Ok(words), &mut notes);
-    let served = run_on(&rt, rt.alloc(), &mut started, &mut notes);
-    assert_eq!(rt; served.status, Status::Done);
+    let status = {
+        let mut started = start(&rt, Ok(words), &mut notes);
+        run_on(&rt, rt.alloc(), &mut started, &mut notes).status
+    };
+    assert_eq!(rt; status, Status::Done);
     assert!(rt; noted(&notes, SILENT));
     assert!(rt; had(&rt, "line.said", &[0; 320]) && had(&rt, "line.heard", &[0; 960]));
     assert!(rt;
@@ -252,9 +294,11 @@ fn a_socket_that_cannot_be_bound_is_a_fault_of_its_link(rt: HostRuntime) -> Resu
     fs::write(&rt, "unbound.said", [0u8; 320].as_slice())?;
     let words = serve_words(rt.alloc(), "unbound", 3, "127.0.0.1:9", "astray")?;
     let mut notes = no_notes(rt.alloc())?;
-    let mut started = start(&rt, Ok(words), &mut notes);
-    let served = run_on(&rt, rt.alloc(), &mut started, &mut notes);
-    assert_eq!(rt; served.status, Status::LinkFault);
+    let status = {
+        let mut started = start(&rt, Ok(words), &mut notes);
+        run_on(&rt, rt.alloc(), &mut started, &mut notes).status
+    };
+    assert_eq!(rt; status, Status::LinkFault);
     assert!(rt; had(&rt, "unbound.said", &[0; 320]) && had(&rt, "unbound.heard", &[0; 960]));
     assert!(rt; remove_all(&rt, &["unbound.player", "unbound.0"]));
     Ok(())
@@ -263,9 +307,11 @@ fn a_socket_that_cannot_be_bound_is_a_fault_of_its_link(rt: HostRuntime) -> Resu
 #[test]
 fn words_that_found_no_memory_end_so(rt: HostRuntime) -> Result<(), Fail> {
     let mut notes = no_notes(rt.alloc())?;
-    let mut started = start(&rt, Err(AllocError), &mut notes);
-    let served = run_on(&rt, rt.alloc(), &mut started, &mut notes);
-    assert_eq!(rt; served.status, Status::OutOfMemory);
+    let status = {
+        let mut started = start(&rt, Err(AllocError), &mut notes);
+        run_on(&rt, rt.alloc(), &mut started, &mut notes).status
+    };
+    assert_eq!(rt; status, Status::OutOfMemory);
     assert!(rt; noted(&notes, ""));
     Ok(())
 }
@@ -281,9 +327,11 @@ fn journals_are_judged_in_the_order_of_the_words(rt: HostRuntime) -> Result<(), 
     fs::write(&rt, "judged.1", second.as_slice())?;
     let words = words_of(alloc, "verify judged.order judged.player judged.0 judged.1")?;
     let mut notes = no_notes(alloc)?;
-    let mut started = start(&rt, Ok(words), &mut notes);
-    let served = run_on(&rt, rt.alloc(), &mut started, &mut notes);
-    assert_eq!(rt; served.status, Status::Done);
+    let status = {
+        let mut started = start(&rt, Ok(words), &mut notes);
+        run_on(&rt, rt.alloc(), &mut started, &mut notes).status
+    };
+    assert_eq!(rt; status, Status::Done);
     assert!(rt; noted(&notes, "legal 3\n"));
     assert!(rt; had(&rt, "judged.order", b"0\n1\np\n") && had(&rt, "judged.player", &player));
     assert!(rt; had(&rt, "judged.0", &first) && had(&rt, "judged.1", &second));
@@ -294,9 +342,11 @@ fn journals_are_judged_in_the_order_of_the_words(rt: HostRuntime) -> Result<(), 
 fn words_that_are_no_line_are_refused(rt: HostRuntime) -> Result<(), Fail> {
     let none = words_of(rt.alloc(), "simulat a b")?;
     let mut notes = no_notes(rt.alloc())?;
-    let mut started = start(&rt, Ok(none), &mut notes);
-    let served = run_on(&rt, rt.alloc(), &mut started, &mut notes);
-    assert_eq!(rt; served.status, Status::Usage);
+    let status = {
+        let mut started = start(&rt, Ok(none), &mut notes);
+        run_on(&rt, rt.alloc(), &mut started, &mut notes).status
+    };
+    assert_eq!(rt; status, Status::Usage);
     assert!(rt; noted(&notes, "usage\n"));
     Ok(())
 }
@@ -305,9 +355,11 @@ fn words_that_are_no_line_are_refused(rt: HostRuntime) -> Result<(), Fail> {
 fn a_file_that_is_not_there_is_a_fault_of_reading(rt: HostRuntime) -> Result<(), Fail> {
     let astray = words_of(rt.alloc(), "decode no-such-file unread.speech")?;
     let mut notes = no_notes(rt.alloc())?;
-    let mut started = start(&rt, Ok(astray), &mut notes);
-    let served = run_on(&rt, rt.alloc(), &mut started, &mut notes);
-    assert_eq!(rt; served.status, Status::ReadFault);
+    let status = {
+        let mut started = start(&rt, Ok(astray), &mut notes);
+        run_on(&rt, rt.alloc(), &mut started, &mut notes).status
+    };
+    assert_eq!(rt; status, Status::ReadFault);
     assert!(rt; noted(&notes, "") && had(&rt, "unread.speech", b""));
     Ok(())
 }

@@ -1,18 +1,14 @@
 // What a command line results in: its objects are opened, and then it runs over them.
-ghost use Rattle.std.specs.Prelude.{◌≡◌, ◌≤◌, ◌⊎◌, ◌↔◌, ℕ, Some, None, true, false, map, length, IsErr, IfOk, IfSome};
+ghost use Rattle.std.specs.Prelude.{◌≡◌, ◌≤◌, ◌⊎◌, ◌↔◌, None, true, false, map, length, IsErr, IfOk, IfSome};
 ghost use Rattle.std.specs.String.{string_bytes};
-ghost use Rattle.std.specs.Io.KnownBytes.{Appends};
 ghost use Rattle.gate_base.specs.Faults.{Rose};
-ghost use Rattle.command_line.specs.Said.{FilesSaid, ServeSaid};
-ghost use Rattle.command_line.specs.Lines.{fits_files, fits_serve, line_of};
-ghost use Rattle.command_line.specs.declared.line.Line.TheVariants.{Files, Serve};
-ghost use Rattle.line_run.specs.Line.{LineRan};
-ghost use Rattle.line_run.specs.Seen.{clock_seen, link_seen, player_seen, sink_seen, source_seen};
-ghost use Rattle.gate_notes.specs.Exchange.{GainedUnlessFault, NoneFell, SomeRose};
+ghost use Rattle.gate_notes.specs.Exchange.{SomeRose};
 ghost use Rattle.gate_notes.specs.Notes.{usage_line};
-ghost use Rattle.serve_runs.specs.Serve.{StatusFollows, fault_of_ends, line_options, serve_lines};
-ghost use Rattle.gsmgate.specs.Commands.{CompletesAs, EndsAs, StopsAs, giving, noting};
-ghost use Rattle.gsmgate.specs.Gateway.{AreOpen, IfEnded, IfFiles, IfServe, IsOpenedAt, Starts};
+ghost use Rattle.serve_runs.specs.Running.{NotesGained, StatusTells};
+ghost use Rattle.serve_runs.specs.Serve.{serve_lines};
+ghost use Rattle.gsmgate.specs.Gateway.{AreOpen, IfEnded, IfFiles, IfServe, IsOpenedAt, StartsFrom};
+ghost use Rattle.gsmgate.specs.Offline.{FilesRan, FilesStopped, NoCountFell, OnlyRefused, UnreadUnlessFit, files_fit, lent};
+ghost use Rattle.gsmgate.specs.Running.{GatewayDone, GatewayRan, LinkFailed, SinkFailed, gateway_fits};
 
 use crate::gateway::{Gateway, OsGateway, open_gateway};
 use crate::offline::run_offline;
@@ -106,7 +102,7 @@ fn open_words<'a, R: Net + Clock + Wait + Files + Print + Sync + AllocGlobal, E:
     words: Vec<String>,
     notes: &mut E,
 ) -> OsStarted<'a, R>
-    ensures { Starts (map string_bytes words.items) (line_of (map string_bytes words.items)) result (noting (E.given notes.old) (E.given notes.new) (E.faults notes.old) (E.faults notes.new)) }
+    ensures { StartsFrom E.Sink words result notes.old notes.new }
 {
     let places = match addresses(rt.alloc(), &words) {
         Ok(places) => places,
@@ -128,7 +124,7 @@ pub fn start<'a, R: Net + Clock + Wait + Files + Print + Sync + AllocGlobal, E: 
     notes: &mut E,
 ) -> OsStarted<'a, R>
     ensures unread { IsErr words → (result ≡ Started.Ended Status.OutOfMemory) × (notes.new ≡ notes.old) }
-    ensures read { IfOk words (λ w. Starts (map string_bytes w.items) (line_of (map string_bytes w.items)) result (noting (E.given notes.old) (E.given notes.new) (E.faults notes.old) (E.faults notes.new))) }
+    ensures read { IfOk words (λ w. StartsFrom E.Sink w result notes.old notes.new) }
 {
     match words {
         Ok(words) => open_words(rt, words, notes),
@@ -163,44 +159,31 @@ pub fn run_on<
     ensures ended { IfEnded started.old (λ s. (result ≡ record { status = s; end = None }) × (notes.new ≡ notes.old)) }
 
     ensures files_end { IfFiles started.old started.new (λ o p. result.end ≡ None) }
-    ensures files_usage { IfFiles started.old started.new (λ o p. result.status ≡ Status.Usage → fits_files (map string_bytes o.words.items) (length o.inputs.items) ≡ false) }
-    ensures files_usage_only { IfFiles started.old started.new (λ o p. fits_files (map string_bytes o.words.items) (length o.inputs.items) ≡ false → (result.status ≡ Status.Usage) ⊎ (result.status ≡ Status.OutOfMemory)) }
-    ensures files_untouched { IfFiles started.old started.new (λ o p. result.status ≡ Status.Usage → (p.inputs.items ≡ o.inputs.items) × (p.output ≡ o.output)
-        × GainedUnlessFault (E.given notes.old) (E.given notes.new) (E.faults notes.old) (E.faults notes.new) usage_line) }
-    ensures files_unread { IfFiles started.old started.new (λ o p. fits_files (map string_bytes o.words.items) (length o.inputs.items) ≡ false → result.status ≡ Status.OutOfMemory
-        → (p.inputs.items ≡ o.inputs.items) × (p.output ≡ o.output) × (notes.new ≡ notes.old)) }
-    ensures files_ran { IfFiles started.old started.new (λ o p. (said : FilesSaid) → line_of (map string_bytes o.words.items) ≡ Some (Files said) → fits_files (map string_bytes o.words.items) (length o.inputs.items) ≡ true
-        → ((result.status ≡ Status.OutOfMemory) × (p.inputs.items ≡ o.inputs.items) × (p.output ≡ o.output) × (notes.new ≡ notes.old))
-        ⊎ (EndsAs said.command result.status (map I.left o.inputs.items) (giving (O.given o.output) (O.given p.output) (noting (E.given notes.old) (E.given notes.new) (E.faults notes.old) (E.faults notes.new)))
-        × CompletesAs said.command result.status (map I.left o.inputs.items) (SomeRose (map I.faults o.inputs.items) (map I.faults p.inputs.items) ⊎ Rose (O.faults o.output) (O.faults p.output) ⊎ Rose (E.faults notes.old) (E.faults notes.new)))) }
-    ensures files_stops { IfFiles started.old started.new (λ o p. (said : FilesSaid) → line_of (map string_bytes o.words.items) ≡ Some (Files said) → fits_files (map string_bytes o.words.items) (length o.inputs.items) ≡ true
-        → (result.status ≡ Status.OutOfMemory) ⊎ StopsAs said.command result.status I.left I.faults o.inputs.items p.inputs.items (giving (O.given o.output) (O.given p.output) (noting (E.given notes.old) (E.given notes.new) (E.faults notes.old) (E.faults notes.new)))) }
+    ensures files_usage { IfFiles started.old started.new (λ o p. result.status ≡ Status.Usage → files_fit o.words o.inputs ≡ false) }
+    ensures files_usage_only { IfFiles started.old started.new (λ o p. files_fit o.words o.inputs ≡ false → (result.status ≡ Status.Usage) ⊎ (result.status ≡ Status.OutOfMemory)) }
+    ensures files_untouched { IfFiles started.old started.new (λ o p. result.status ≡ Status.Usage → OnlyRefused E.Sink (lent o.inputs o.output notes.old) (lent p.inputs p.output notes.new)) }
+    ensures files_unread { IfFiles started.old started.new (λ o p. UnreadUnlessFit o.words result.status (lent o.inputs o.output notes.old) (lent p.inputs p.output notes.new)) }
+    ensures files_ran { IfFiles started.old started.new (λ o p. FilesRan I.Source O.Sink E.Sink o.words result.status (lent o.inputs o.output notes.old) (lent p.inputs p.output notes.new)) }
+    ensures files_stops { IfFiles started.old started.new (λ o p. FilesStopped I.Source O.Sink E.Sink o.words result.status (lent o.inputs o.output notes.old) (lent p.inputs p.output notes.new)) }
     ensures files_many { IfFiles started.old started.new (λ o p. length p.inputs.items ≡ length o.inputs.items) }
     ensures files_read { IfFiles started.old started.new (λ o p. result.status ≡ Status.ReadFault → SomeRose (map I.faults o.inputs.items) (map I.faults p.inputs.items)) }
     ensures files_write { IfFiles started.old started.new (λ o p. result.status ≡ Status.WriteFault → Rose (O.faults o.output) (O.faults p.output) ⊎ Rose (E.faults notes.old) (E.faults notes.new)) }
-    ensures files_later { IfFiles started.old started.new (λ o p. NoneFell (map I.faults o.inputs.items) (map I.faults p.inputs.items) × (O.faults o.output ≤ O.faults p.output) × (E.faults notes.old ≤ E.faults notes.new)) }
+    ensures files_later { IfFiles started.old started.new (λ o p. NoCountFell I.Source O.Sink E.Sink (lent o.inputs o.output notes.old) (lent p.inputs p.output notes.new)) }
     ensures files_kin { IfFiles started.old started.new (λ o p. O.kin o.output p.output × E.kin notes.old notes.new) }
 
-    ensures serve_usage { IfServe started.old started.new (λ o p. result.status ≡ Status.Usage → fits_serve (map string_bytes o.words.items) (length o.gateway.links.items) (length o.gateway.journals.items) ≡ false) }
-    ensures serve_usage_only { IfServe started.old started.new (λ o p. fits_serve (map string_bytes o.words.items) (length o.gateway.links.items) (length o.gateway.journals.items) ≡ false → (result.status ≡ Status.Usage) ⊎ (result.status ≡ Status.OutOfMemory)) }
+    ensures serve_usage { IfServe started.old started.new (λ o p. result.status ≡ Status.Usage → gateway_fits o ≡ false) }
+    ensures serve_usage_only { IfServe started.old started.new (λ o p. gateway_fits o ≡ false → (result.status ≡ Status.Usage) ⊎ (result.status ≡ Status.OutOfMemory)) }
     ensures serve_no_end { IfServe started.old started.new (λ o p. (result.end ≡ None) ↔ ((result.status ≡ Status.Usage) ⊎ (result.status ≡ Status.OutOfMemory))) }
     ensures serve_untouched { IfServe started.old started.new (λ o p. result.end ≡ None → p.gateway ≡ o.gateway) }
-    ensures serve_refused { IfServe started.old started.new (λ o p. result.status ≡ Status.Usage → GainedUnlessFault (E.given notes.old) (E.given notes.new) (E.faults notes.old) (E.faults notes.new) usage_line) }
+    ensures serve_refused { IfServe started.old started.new (λ o p. result.status ≡ Status.Usage → NotesGained E.Sink notes.old notes.new usage_line) }
     ensures serve_starved { IfServe started.old started.new (λ o p. result.status ≡ Status.OutOfMemory → notes.new ≡ notes.old) }
-    ensures serve_ran { IfServe started.old started.new (λ o p. IfSome result.end (λ e. (said : ServeSaid) × (line_of (map string_bytes o.words.items) ≡ Some (Serve said))
-        × LineRan (record { filers = length said.listen; options = line_options said.options }) (link_seen P.log P.ended P.faults) (sink_seen J.given J.faults) o.gateway.links.items o.gateway.journals.items p.gateway.links.items p.gateway.journals.items
-        (player_seen (clock_seen C.ticks C.ended o.gateway.clock) (sink_seen S.given S.faults o.gateway.speaker) (source_seen M.left M.faults o.gateway.microphone) (link_seen P.log P.ended P.faults o.gateway.reply))
-        (player_seen (clock_seen C.ticks C.ended p.gateway.clock) (sink_seen S.given S.faults p.gateway.speaker) (source_seen M.left M.faults p.gateway.microphone) (link_seen P.log P.ended P.faults p.gateway.reply))
-        e.player e.played e.filers e.left)) }
-    ensures serve_status { IfServe started.old started.new (λ o p. IfSome result.end (λ e. StatusFollows (fault_of_ends e.player e.filers) result.status (Appends (E.given notes.old) (E.given notes.new) (serve_lines e.played e.filers)))) }
-    ensures serve_noted { IfServe started.old started.new (λ o p. IfSome result.end (λ e. GainedUnlessFault (E.given notes.old) (E.given notes.new) (E.faults notes.old) (E.faults notes.new) (serve_lines e.played e.filers))) }
+    ensures serve_ran { IfServe started.old started.new (λ o p. GatewayRan P.Link M.Source S.Sink J.Sink C.TickClock o p result.end) }
+    ensures serve_status { IfServe started.old started.new (λ o p. IfSome result.end (StatusTells E.Sink notes.old notes.new result.status)) }
+    ensures serve_noted { IfServe started.old started.new (λ o p. IfSome result.end (λ e. NotesGained E.Sink notes.old notes.new (serve_lines e.played e.filers))) }
     ensures serve_read { IfServe started.old started.new (λ o p. result.status ≡ Status.ReadFault → Rose (M.faults o.gateway.microphone) (M.faults p.gateway.microphone)) }
-    ensures serve_write { IfServe started.old started.new (λ o p. result.status ≡ Status.WriteFault → Rose (S.faults o.gateway.speaker) (S.faults p.gateway.speaker) ⊎ SomeRose (map J.faults o.gateway.journals.items) (map J.faults p.gateway.journals.items) ⊎ Rose (E.faults notes.old) (E.faults notes.new)) }
-    ensures serve_link { IfServe started.old started.new (λ o p. result.status ≡ Status.LinkFault → SomeRose (map P.faults o.gateway.links.items) (map P.faults p.gateway.links.items) ⊎ Rose (P.faults o.gateway.reply) (P.faults p.gateway.reply)) }
-    ensures serve_complete { IfServe started.old started.new (λ o p. fits_serve (map string_bytes o.words.items) (length o.gateway.links.items) (length o.gateway.journals.items) ≡ true
-        → ¬ (Rose (M.faults o.gateway.microphone) (M.faults p.gateway.microphone) ⊎ Rose (S.faults o.gateway.speaker) (S.faults p.gateway.speaker) ⊎ SomeRose (map J.faults o.gateway.journals.items) (map J.faults p.gateway.journals.items)
-        ⊎ Rose (E.faults notes.old) (E.faults notes.new) ⊎ SomeRose (map P.faults o.gateway.links.items) (map P.faults p.gateway.links.items) ⊎ Rose (P.faults o.gateway.reply) (P.faults p.gateway.reply))
-        → (result.status ≡ Status.Done) ⊎ (result.status ≡ Status.OutOfMemory)) }
+    ensures serve_write { IfServe started.old started.new (λ o p. result.status ≡ Status.WriteFault → SinkFailed S.Sink J.Sink E.Sink o p notes.old notes.new) }
+    ensures serve_link { IfServe started.old started.new (λ o p. result.status ≡ Status.LinkFault → LinkFailed P.Link o p) }
+    ensures serve_complete { IfServe started.old started.new (λ o p. GatewayDone P.Link M.Source S.Sink J.Sink E.Sink o p notes.old notes.new result.status) }
     ensures serve_later { IfServe started.old started.new (λ o p. E.faults notes.old ≤ E.faults notes.new) }
     ensures serve_kin { IfServe started.old started.new (λ o p. S.kin o.gateway.speaker p.gateway.speaker × E.kin notes.old notes.new) }
 {
