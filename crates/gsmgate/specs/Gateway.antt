@@ -131,7 +131,7 @@ abbrev pub StartsFrom : {E X Y : Type 0} → SinkKind E → Vec (String X) Y →
 StartsFrom of_e words started notes notes' =
     Starts (map string_bytes words.items) (line_of (map string_bytes words.items)) started (noting (of_e.given notes) (of_e.given notes') (of_e.faults notes) (of_e.faults notes'))
 
--- ---- what it comes to when it runs
+-- ---- what it results in when it runs
 
 -- where the words have ended already, this holds of their status
 abbrev pub IfEnded : {I O G : Type 0} → Started I O G → (Status → Type 0) → Type 0

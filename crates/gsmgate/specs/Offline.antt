@@ -18,7 +18,7 @@ use Rattle.gsmgate.specs.Commands.{CompletesAs, EndsAs, StopsAs}
 
 -- ---- the words
 
--- whether the words are a line over files with so many inputs
+-- whether the words are a line over files with this many inputs
 abbrev pub files_fit : {I X Y Z : Type 0} → Vec (String X) Y → Vec I Z → Bool
 files_fit words inputs = fits_files (map string_bytes words.items) (length inputs.items)
 
@@ -66,9 +66,9 @@ Untouched a b = (b.inputs ≡ a.inputs) × (b.output ≡ a.output) × (b.notes �
 abbrev pub OnlyRefused : {I O E : Type 0} → SinkKind E → Lent I O E → Lent I O E → Type 0
 OnlyRefused of_e a b = (b.inputs ≡ a.inputs) × (b.output ≡ a.output) × NotesGained of_e a.notes b.notes usage_line
 
--- ---- what a command comes to
+-- ---- what a command results in
 
--- the status says what passed, and where the inputs were in their grammars and no count rose the command came to its end
+-- the status says what passed, and where the inputs were in their grammars and no count rose the command reached its end
 abbrev pub RanAs : {I O E : Type 0} → SourceKind I → SinkKind O → SinkKind E → Command → Status → Lent I O E → Lent I O E → Type 0
 RanAs of_i of_o of_e command status a b =
     EndsAs command status (map of_i.left a.inputs) (passed of_o of_e a.output a.notes b.output b.notes)
@@ -78,7 +78,7 @@ RanAs of_i of_o of_e command status a b =
 abbrev pub StoppedAs : {I O E : Type 0} → SourceKind I → SinkKind O → SinkKind E → Command → Status → Lent I O E → Lent I O E → Type 0
 StoppedAs of_i of_o of_e command status a b = StopsAs command status of_i.left of_i.faults a.inputs b.inputs (passed of_o of_e a.output a.notes b.output b.notes)
 
--- ---- what a line comes to
+-- ---- what a line results in
 
 -- where it is a line over files that was not refused, its command ran
 abbrev pub LineRanAs : {I O E : Type 0} → SourceKind I → SinkKind O → SinkKind E → Said → Status → Lent I O E → Lent I O E → Type 0
@@ -87,13 +87,13 @@ LineRanAs of_i of_o of_e line status a b = (said : FilesSaid) → line ≡ Files
 abbrev pub LineStoppedAs : {I O E : Type 0} → SourceKind I → SinkKind O → SinkKind E → Said → Status → Lent I O E → Lent I O E → Type 0
 LineStoppedAs of_i of_o of_e line status a b = (said : FilesSaid) → line ≡ Files said → (status ≡ Usage → ⊥) → StoppedAs of_i of_o of_e said.command status a b
 
--- ---- what words come to
+-- ---- what words result in
 
 -- where the words do not fit the inputs and there was no memory to tell it, all is as it was
 abbrev pub UnreadUnlessFit : {I O E X Y : Type 0} → Vec (String X) Y → Status → Lent I O E → Lent I O E → Type 0
 UnreadUnlessFit words status a b = fits_files (map string_bytes words.items) (length a.inputs) ≡ false → status ≡ OutOfMemory → Untouched a b
 
--- where the words are a line over files with so many inputs, its command ran, or there was no memory to read them
+-- where the words are a line over files with this many inputs, its command ran, or there was no memory to read them
 abbrev pub FilesRan : {I O E X Y : Type 0} → SourceKind I → SinkKind O → SinkKind E → Vec (String X) Y → Status → Lent I O E → Lent I O E → Type 0
 FilesRan of_i of_o of_e words status a b =
     (said : FilesSaid) → line_of (map string_bytes words.items) ≡ Some (Files said) → fits_files (map string_bytes words.items) (length a.inputs) ≡ true

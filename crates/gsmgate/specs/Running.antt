@@ -1,4 +1,4 @@
--- What the gateway of a line comes to when it runs.
+-- What the gateway of a line results in when it runs.
 use Rattle.std.specs.Prelude.{Option, Bool}
 use Rattle.line_run.specs.Objects.{LineObjects, objects}
 use Rattle.line_run.specs.Seen.{ClockKind, LinkKind, SinkKind, SourceKind}
@@ -16,7 +16,7 @@ gateway_fits o = serve.fits_over o.words o.gateway.links o.gateway.journals
 abbrev pub objects_of : {P M S J C : Type 0} → Gateway P M S J C → LineObjects P M S J C
 objects_of g = objects g.links g.reply g.microphone g.speaker g.journals g.clock
 
--- the line of the words ran over the gateway, and came to this end, where it came to one
+-- the line of the words ran over the gateway, and reached this end, where it resulted in one
 abbrev pub GatewayRan : {P M S J C : Type 0} → LinkKind P → SourceKind M → SinkKind S → SinkKind J → ClockKind C → ServeOpen (Gateway P M S J C) → ServeOpen (Gateway P M S J C) → Option LineEnd → Type 0
 GatewayRan of_p of_m of_s of_j of_c o p end = serve.ServeRan of_p of_m of_s of_j of_c o.words (objects_of o.gateway) (objects_of p.gateway) end
 
@@ -28,6 +28,6 @@ SinkFailed of_s of_j of_e o p notes notes' = serve.SomeSinkFailed of_s of_j of_e
 abbrev pub LinkFailed : {P M S J C : Type 0} → LinkKind P → ServeOpen (Gateway P M S J C) → ServeOpen (Gateway P M S J C) → Type 0
 LinkFailed of_p o p = serve.SomeLinkFailed of_p o.gateway.links p.gateway.links o.gateway.reply p.gateway.reply
 
--- where the words fit the gateway and no count rose, the line is done, but for want of memory
+-- where the words fit the gateway and no count rose, the line is done, unless memory is out
 abbrev pub GatewayDone : {P M S J C E : Type 0} → LinkKind P → SourceKind M → SinkKind S → SinkKind J → SinkKind E → ServeOpen (Gateway P M S J C) → ServeOpen (Gateway P M S J C) → E → E → Status → Type 0
 GatewayDone of_p of_m of_s of_j of_e o p notes notes' status = serve.DoneUnlessFault of_p of_m of_s of_j of_e o.words (objects_of o.gateway) (objects_of p.gateway) notes notes' status
