@@ -1,16 +1,16 @@
--- Each filing's reply comes for its cause, and what is held was said first.
-use Rattle.std.proofs.Common.{◌≡◌, inl, inr, ⊎_elim, ℕ, ◌+◌, ◌-◌, ◌%◌, ◌≤◌, ◌<◌, List, [], ◌∷◌, Option, Some, None, is_some, true, true≢false, refl, sym, ap, ◌∙◌, subst, arith}
+-- Each filing's reply comes for its cause, what is held was said first, and a look and a hold tell what was accepted.
+use Rattle.std.proofs.Common.{◌≡◌, inl, inr, ⊎_elim, ℕ, ◌+◌, ◌-◌, ◌%◌, ◌≤◌, ◌<◌, Bool, List, [], ◌∷◌, Option, Some, None, is_some, is_none, MatchBool, true, true≢false, refl, sym, ap, ◌∙◌, subst, arith}
 use Rattle.std.proofs.lemmas.Bool.{cases_lt}
 use Rattle.std.specs.FinMap as map
 use Rattle.playout.specs.declared.reply.FileReply.{FileReply}
 use Rattle.playout.specs.declared.reply.FileReply.TheVariants.{Accepted, Duplicate, Late, Beyond}
 use Rattle.playout.specs.declared.call.Call.{Call}
-use Rattle.playout.specs.declared.call.Call.TheVariants.{FileCall, SourceCall, BaseCall, PeekCall, TickCall}
+use Rattle.playout.specs.declared.call.Call.TheVariants.{FileCall, SourceCall, BaseCall, PeekCall, LookCall, HoldCall}
 use Rattle.playout.specs.Machine.{Machine, opening_machine, Replies, FileReplies, IsAhead, after, filed, held_or}
-use Rattle.playout.specs.History.{Entry, entry, IsLegal, after_all}
+use Rattle.playout.specs.History.{Entry, entry, IsLegal, after_all, next_number}
 use Rattle.playout.specs.HistoryLaws.{IsLegal-append}
 use Rattle.playout.specs.Plays.{WasAccepted}
-use Rattle.playout.specs.Causes.{next_number, NoneAccepted, IsLeastAhead, IsCause, RepliesHaveCauses, CausesGiveReplies, JustOneCause, source_said, base_said, or_later, first_source, first_base, FirstIsHeld}
+use Rattle.playout.specs.Causes.{SomeAccepted, NoneAccepted, IsLeastAhead, IsCause, RepliesHaveCauses, CausesGiveReplies, JustOneCause, source_said, base_said, or_later, first_source, first_base, FirstIsHeld, LooksTellAccepted}
 use Rattle.playout.specs.HeldFrames.{none_some, position_is, accepted_there}
 use Rattle.playout.proofs.AcceptedLaws.{there_accepted, nothing_yet, reply_at}
 use Rattle.playout.proofs.OneReply.{one_file_reply}
@@ -66,6 +66,11 @@ module _ (r : ℕ) (before : List Entry) (legal : IsLegal r opening_machine befo
       within come near None e = (Accepted, (come, near, e))
       within come near (Some f) e = (Duplicate, (come, near, ap is_some e))
 
+  -- whether something waits under a number to come is whether it was accepted
+  tells : (n : ℕ) → m.position ≤ n → (o : Option (List ℕ)) → map.get m.frames n ≡ o → MatchBool (is_some o) (SomeAccepted n before) (NoneAccepted n before) × MatchBool (is_none o) (NoneAccepted n before) (SomeAccepted n before)
+  tells n le None e = let none : NoneAccepted n before = λ f was. none_some (sym e ∙ accepted_there r opening_machine before n f legal le was) in (none, none)
+  tells n le (Some f) e = let some : SomeAccepted n before = (f, was_filed n f e) in (some, some)
+
   next : m.position ≡ next_number before
   next = position_is opening_machine before
 
@@ -109,16 +114,12 @@ file_keeps m n f (Beyond a) = (refl, refl)
 source_after : (r : ℕ) (m : Machine) (c : Call) → Replies r m c → (after m c).source ≡ or_later m.source (source_said c)
 source_after r m (FileCall n f reply) a = (file_keeps m n f reply).0 ∙ sym (or_none m.source)
 source_after r m (SourceCall x held) a = or_held m.source x held a
-source_after r m (BaseCall x held) a = sym (or_none m.source)
-source_after r m (PeekCall held) a = sym (or_none m.source)
-source_after r m (TickCall item) a = sym (or_none m.source)
+source_after r m _ a = sym (or_none m.source)
 
 base_after : (r : ℕ) (m : Machine) (c : Call) → Replies r m c → (after m c).base ≡ or_later m.base (base_said c)
 base_after r m (FileCall n f reply) a = (file_keeps m n f reply).1 ∙ sym (or_none m.base)
-base_after r m (SourceCall x held) a = sym (or_none m.base)
 base_after r m (BaseCall x held) a = or_held m.base x held a
-base_after r m (PeekCall held) a = sym (or_none m.base)
-base_after r m (TickCall item) a = sym (or_none m.base)
+base_after r m _ a = sym (or_none m.base)
 
 source_is : (r : ℕ) (m : Machine) (h : List Entry) → IsLegal r m h → (after_all m h).source ≡ or_later m.source (first_source h)
 source_is r m [] legal = sym (or_none m.source)
@@ -134,4 +135,23 @@ first_held r who before rest =
       source = λ x held legal. let at = reply_at r opening_machine before (entry who (SourceCall x held)) rest legal in at.1 ∙ ap (λ (o : Option ℕ). held_or o x) (source_is r opening_machine before at.0);
       base = λ x held legal. let at = reply_at r opening_machine before (entry who (BaseCall x held)) rest legal in at.1 ∙ ap (λ (o : Option ℕ). held_or o x) (base_is r opening_machine before at.0);
       peek = λ held legal. let at = reply_at r opening_machine before (entry who (PeekCall held)) rest legal in at.1 ∙ base_is r opening_machine before at.0;
+    }
+
+pub looks_tell : LooksTellAccepted
+looks_tell r who before rest =
+    record {
+      look = λ ahead filled legal.
+          let at = reply_at r opening_machine before (entry who (LookCall ahead filled)) rest legal in
+          let m : Machine = after_all opening_machine before in
+          let there : m.position ≡ next_number before = next r before at.0 in
+          let n : ℕ = next_number before + ahead in
+          let is : filled ≡ is_some (map.get m.frames n) = at.1.1 ∙ ap (λ (p : ℕ). is_some (map.get m.frames (p + ahead))) there in
+          (at.1.0, subst (λ (b : Bool). MatchBool b (SomeAccepted n before) (NoneAccepted n before)) (sym is) (tells r before at.0 n (omega (arith, there)) (map.get m.frames n) refl).0);
+      hold = λ held legal.
+          let at = reply_at r opening_machine before (entry who (HoldCall held)) rest legal in
+          let m : Machine = after_all opening_machine before in
+          let n : ℕ = next_number before in
+          let there : m.position ≡ n = next r before at.0 in
+          let is : held ≡ is_none (map.get m.frames n) = at.1 ∙ ap (λ (p : ℕ). is_none (map.get m.frames p)) there in
+          subst (λ (b : Bool). MatchBool b (NoneAccepted n before) (SomeAccepted n before)) (sym is) (tells r before at.0 n (omega (arith, there)) (map.get m.frames n) refl).1;
     }

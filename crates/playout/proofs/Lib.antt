@@ -4,6 +4,7 @@ pub mod Fits
 pub mod Moved
 pub mod AheadLaws
 pub mod AcceptedLaws
+pub mod Counting
 pub mod Once
 pub mod OneReply
 pub mod Causes

@@ -1,5 +1,5 @@
 -- The map that a list of pairs stands for, after a change of the list.
-use Rattle.std.proofs.Common.{◌≡◌, ℕ, zero, suc, ◌<◌, ◌≢◌, eqb, List, [], ◌∷◌, length, Bool, true, false, cond, Option, Some, None, is_some, refl, sym, ap, ◌∙◌, arith}
+use Rattle.std.proofs.Common.{◌≡◌, ℕ, zero, suc, ◌<◌, ◌≢◌, eqb, List, [], ◌∷◌, length, Bool, true, false, cond, Option, Some, None, is_some, Result, Ok, Err, is_ok, IfOk, IfErr, refl, sym, ap, ◌∙◌, arith}
 use Rattle.std.specs.List.{insert}
 use Rattle.std.specs.Ordering.{nat_cmp, eq_by_cmp}
 use Rattle.std.specs.Cmp.{nat_cmp_total}
@@ -63,6 +63,11 @@ in_gap l k i gap = get_looked l k ∙ absent l k (λ j lt same. grind (arith, ga
 
 pub in_place : (l : Pairs) (k i : ℕ) → IsAt l k i → is_some (map.get (frames_in l) k) ≡ true
 in_place l k i is_at = ap is_some (get_looked l k) ∙ present l k i is_at
+
+-- what a search finds is whether the map has the number
+pub waits_at : (l : Pairs) (k : ℕ) (found : Result ℕ ℕ) → IfOk found (IsAt l k) → IfErr found (IsGapFor l k) → is_ok found ≡ is_some (map.get (frames_in l) k)
+waits_at l k (Ok at) is_at gap = sym (in_place l k at is_at)
+waits_at l k (Err at) is_at gap = sym (ap is_some (in_gap l k at gap))
 
 -- where looking up in new answers as in old without p, the map has lost p
 map_lost : (new old : Pairs) (p : ℕ) → ((q : ℕ) → looked_up new q ≡ cond (eqb q p) None (looked_up old q)) → frames_in new ≡ map.remove (frames_in old) p

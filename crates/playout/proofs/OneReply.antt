@@ -1,8 +1,8 @@
 -- No reply of the machine is free.
-use Rattle.std.proofs.Common.{◌≡◌, ◌↔◌, IsTrue, Bool, ℕ, true, true≢false, List, [], ◌∷◌, Option, None, is_some, refl, sym, ap, ◌∙◌, subst, arith}
+use Rattle.std.proofs.Common.{◌≡◌, ◌↔◌, IsTrue, Bool, ℕ, true, true≢false, ◌+◌, List, [], ◌∷◌, Option, None, is_some, refl, sym, ap, ◌∙◌, subst, arith}
 use Rattle.std.specs.FinMap as map
 use Rattle.playout.specs.declared.call.Call.{Call}
-use Rattle.playout.specs.declared.call.Call.TheVariants.{FileCall, SourceCall, BaseCall, PeekCall, TickCall}
+use Rattle.playout.specs.declared.call.Call.TheVariants.{FileCall, SourceCall, BaseCall, PeekCall, TickCall, LookCall, HoldCall, RetireCall}
 use Rattle.playout.specs.declared.reply.FileReply.{FileReply}
 use Rattle.playout.specs.declared.reply.FileReply.TheVariants.{Accepted, Duplicate, Late, Beyond}
 use Rattle.playout.specs.Machine.{Machine, opening_machine, Replies, FileReplies, after}
@@ -11,7 +11,7 @@ use Rattle.playout.specs.Plays.{asked, all_asked, RepliesAreOne}
 use Rattle.playout.proofs.AheadLaws.{one_ahead}
 
 -- nothing is both there and not there
-both : (o : Option (List ℕ)) → o ≡ None → is_some o ≡ true → ⊥
+pub both : (o : Option (List ℕ)) → o ≡ None → is_some o ≡ true → ⊥
 both o none some = true≢false (sym some ∙ ap is_some none)
 
 pub one_file_reply : (r : ℕ) (m : Machine) (n : ℕ) (a b : FileReply) → FileReplies r m n a → FileReplies r m n b → a ≡ b
@@ -49,26 +49,14 @@ one_call r m (BaseCall x held) (BaseCall y other) same p q =
     λ i. BaseCall (said i) (one i)
 one_call r m (PeekCall held) (PeekCall other) same p q = ap PeekCall (p ∙ sym q)
 one_call r m (TickCall item) (TickCall other) same p q = ap TickCall (p ∙ sym q)
-one_call r m (FileCall n f reply) (SourceCall y other) same p q = absurd (cc)
-one_call r m (FileCall n f reply) (BaseCall y other) same p q = absurd (cc)
-one_call r m (FileCall n f reply) (PeekCall other) same p q = absurd (cc)
-one_call r m (FileCall n f reply) (TickCall other) same p q = absurd (cc)
-one_call r m (SourceCall x held) (FileCall k g other) same p q = absurd (cc)
-one_call r m (SourceCall x held) (BaseCall y other) same p q = absurd (cc)
-one_call r m (SourceCall x held) (PeekCall other) same p q = absurd (cc)
-one_call r m (SourceCall x held) (TickCall other) same p q = absurd (cc)
-one_call r m (BaseCall x held) (FileCall k g other) same p q = absurd (cc)
-one_call r m (BaseCall x held) (SourceCall y other) same p q = absurd (cc)
-one_call r m (BaseCall x held) (PeekCall other) same p q = absurd (cc)
-one_call r m (BaseCall x held) (TickCall other) same p q = absurd (cc)
-one_call r m (PeekCall held) (FileCall k g other) same p q = absurd (cc)
-one_call r m (PeekCall held) (SourceCall y other) same p q = absurd (cc)
-one_call r m (PeekCall held) (BaseCall y other) same p q = absurd (cc)
-one_call r m (PeekCall held) (TickCall other) same p q = absurd (cc)
-one_call r m (TickCall item) (FileCall k g other) same p q = absurd (cc)
-one_call r m (TickCall item) (SourceCall y other) same p q = absurd (cc)
-one_call r m (TickCall item) (BaseCall y other) same p q = absurd (cc)
-one_call r m (TickCall item) (PeekCall other) same p q = absurd (cc)
+one_call r m (LookCall ahead filled) (LookCall far other) same p q =
+    let place : ahead ≡ far = cc in
+    let is : other ≡ is_some (map.get m.frames (m.position + ahead)) = subst (λ (z : ℕ). other ≡ is_some (map.get m.frames (m.position + z))) (sym place) q.1 in
+    let one : filled ≡ other = p.1 ∙ sym is in
+    λ i. LookCall (place i) (one i)
+one_call r m (HoldCall held) (HoldCall other) same p q = ap HoldCall (p ∙ sym q)
+one_call r m (RetireCall item) (RetireCall other) same p q = ap RetireCall (p ∙ sym q)
+one_call r m a b same p q = absurd (cc)
 
 -- the head and the rest of two lists that are one
 heads : (a b : Entry) (xs bs : List Entry) → Path (List Entry) (a ∷ xs) (b ∷ bs) → (a ≡ b) × (xs ≡ bs)

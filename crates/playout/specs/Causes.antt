@@ -1,16 +1,12 @@
--- Where each reply of a legal history comes from: the cause of a filing's reply, and what is held of sources and bases.
-use Rattle.std.specs.Prelude.{◌≡◌, ℕ, ◌+◌, ◌%◌, ◌≤◌, ◌<◌, List, [], ◌∷◌, ◌++◌, Option, Some, None}
+-- Where each reply of a legal history comes from: the cause of a filing's reply, what is held of sources and bases, and what a look and a hold tell.
+use Rattle.std.specs.Prelude.{◌≡◌, ℕ, ◌+◌, ◌%◌, ◌≤◌, ◌<◌, Bool, List, [], ◌∷◌, ◌++◌, Option, Some, None, MatchBool}
 use Rattle.playout.specs.declared.reply.FileReply.{FileReply}
 use Rattle.playout.specs.declared.reply.FileReply.TheVariants.{Accepted, Duplicate, Late, Beyond}
 use Rattle.playout.specs.declared.call.Call.{Call}
-use Rattle.playout.specs.declared.call.Call.TheVariants.{FileCall, SourceCall, BaseCall, PeekCall, TickCall}
-use Rattle.playout.specs.Machine.{start, opening_machine, held_or}
-use Rattle.playout.specs.History.{Entry, entry, IsLegal, calls, ticks}
+use Rattle.playout.specs.declared.call.Call.TheVariants.{FileCall, SourceCall, BaseCall, PeekCall, LookCall, HoldCall}
+use Rattle.playout.specs.Machine.{opening_machine, held_or}
+use Rattle.playout.specs.History.{Entry, entry, IsLegal, next_number}
 use Rattle.playout.specs.Plays.{WasAccepted}
-
--- the number of the tick that comes next
-abbrev pub next_number : List Entry → ℕ
-next_number before = start + ticks (calls before)
 
 -- some frame was accepted under n
 abbrev pub SomeAccepted : ℕ → List Entry → Type 0
@@ -26,8 +22,8 @@ pub record IsLeastAhead (r p n ahead : ℕ) : Type 0 where
   pub congruent : ahead % r ≡ n % r
   pub least : (other : ℕ) → p ≤ other → other % r ≡ n % r → ahead ≤ other
 
--- why n gets this reply, where p is the number of the next tick and there are r slots: nothing was accepted under it in the window; a
--- frame was; its tick is past; or it is r or more ahead
+-- why n gets this reply, where p is the number that the next tick or retire takes and there are r slots: nothing was accepted under it in
+-- the window; a frame was; its tick or retire is past; or it is r or more ahead
 abbrev pub IsCause : ℕ → ℕ → List Entry → ℕ → FileReply → Type 0
 IsCause r p before n Accepted = (p ≤ n) × (n < p + r) × NoneAccepted n before
 IsCause r p before n Duplicate = (p ≤ n) × (n < p + r) × SomeAccepted n before
@@ -50,18 +46,12 @@ JustOneCause = (r n : ℕ) (before : List Entry) → 1 ≤ r → IsLegal r openi
 
 -- what the calls say of the source, and of the base
 abbrev pub source_said : Call → Option ℕ
-source_said (FileCall n f reply) = None
 source_said (SourceCall x held) = Some x
-source_said (BaseCall x held) = None
-source_said (PeekCall held) = None
-source_said (TickCall item) = None
+source_said _ = None
 
 abbrev pub base_said : Call → Option ℕ
-base_said (FileCall n f reply) = None
-base_said (SourceCall x held) = None
 base_said (BaseCall x held) = Some x
-base_said (PeekCall held) = None
-base_said (TickCall item) = None
+base_said _ = None
 
 abbrev pub or_later : Option ℕ → Option ℕ → Option ℕ
 or_later (Some x) later = Some x
@@ -84,3 +74,13 @@ pub record HeldIsFirst (r who : ℕ) (before rest : List Entry) : Type 0 where
 
 abbrev pub FirstIsHeld : Type 0
 FirstIsHeld = (r who : ℕ) (before rest : List Entry) → HeldIsFirst r who before rest
+
+-- a look so many numbers ahead, less than the slots, tells yes where a frame was accepted before under the number there, and no where none was; a hold
+-- tells yes where none was under the number that comes next, and no where one was
+pub record TellsAccepted (r who : ℕ) (before rest : List Entry) : Type 0 where
+  pub look : (ahead : ℕ) (filled : Bool) → IsLegal r opening_machine (before ++ entry who (LookCall ahead filled) ∷ rest)
+      → (ahead < r) × MatchBool filled (SomeAccepted (next_number before + ahead) before) (NoneAccepted (next_number before + ahead) before)
+  pub hold : (held : Bool) → IsLegal r opening_machine (before ++ entry who (HoldCall held) ∷ rest) → MatchBool held (NoneAccepted (next_number before) before) (SomeAccepted (next_number before) before)
+
+abbrev pub LooksTellAccepted : Type 0
+LooksTellAccepted = (r who : ℕ) (before rest : List Entry) → TellsAccepted r who before rest

@@ -5,10 +5,10 @@ use Rattle.std.specs.FinMap as map
 use Rattle.std.specs.Ordering.{nat_cmp, eq_by_cmp}
 use Rattle.std.specs.Cmp.{nat_cmp_total, unsigned_tied}
 use Rattle.playout.specs.declared.call.Call.{Call}
-use Rattle.playout.specs.declared.call.Call.TheVariants.{FileCall, SourceCall, BaseCall, PeekCall, TickCall}
+use Rattle.playout.specs.declared.call.Call.TheVariants.{FileCall, TickCall, RetireCall}
 use Rattle.playout.specs.declared.reply.FileReply.{FileReply}
 use Rattle.playout.specs.declared.reply.FileReply.TheVariants.{Accepted, Duplicate, Late, Beyond}
-use Rattle.playout.specs.Machine.{Frames, Machine, Replies, FileReplies, after, filed, opening_machine}
+use Rattle.playout.specs.Machine.{Frames, Machine, Replies, FileReplies, after, filed, passed, opening_machine}
 use Rattle.playout.specs.History.{Entry, IsLegal, after_all}
 
 tied : (n : ℕ) → eq_by_cmp nat_cmp n n ≡ true
@@ -50,17 +50,20 @@ window-file r m n f Duplicate w a q g e = w q g e
 window-file r m n f (Late x) w a q g e = w q g e
 window-file r m n f (Beyond x) w a q g e = w q g e
 
--- a call leaves the frames in the window
-pub window-after : (r : ℕ) (m : Machine) (c : Call) → AreInWindow r m → Replies r m c → AreInWindow r (after m c)
-window-after r m (FileCall n f reply) w a q g e = window-file r m n f reply w a q g e
-window-after r m (SourceCall x y) w a q g e = w q g e
-window-after r m (BaseCall x y) w a q g e = w q g e
-window-after r m (PeekCall x) w a q g e = w q g e
-window-after r m (TickCall x) w a q g e = go (ℕ_discrete q m.position)
+-- a tick or a retire leaves the frames in the window
+window-passed : (r : ℕ) (m : Machine) → AreInWindow r m → AreInWindow r (passed m)
+window-passed r m w q g e = go (ℕ_discrete q m.position)
   where
     go : Dec (q ≡ m.position) → (m.position + 1 ≤ q) × (q < m.position + 1 + r)
     go (yes is) = absurd (none_some (sym (get-remove_here m.frames m.position) ∙ ap (λ (z : ℕ). map.get (map.remove m.frames m.position) z) (sym is) ∙ e))
     go (no other) = let k = w q g (sym (get-remove_else m.frames m.position q other) ∙ e) in let lo : m.position ≤ q = k.0 in let hi : q < m.position + r = k.1 in (omega arith, omega arith)
+
+-- and so does each other call
+pub window-after : (r : ℕ) (m : Machine) (c : Call) → AreInWindow r m → Replies r m c → AreInWindow r (after m c)
+window-after r m (FileCall n f reply) w a q g e = window-file r m n f reply w a q g e
+window-after r m (TickCall x) w a q g e = window-passed r m w q g e
+window-after r m (RetireCall x) w a q g e = window-passed r m w q g e
+window-after r m _ w a q g e = w q g e
 
 window-all : (r : ℕ) (m : Machine) (h : List Entry) → AreInWindow r m → IsLegal r m h → AreInWindow r (after_all m h)
 window-all r m [] w l = w

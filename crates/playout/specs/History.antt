@@ -3,8 +3,8 @@ use Rattle.std.specs.Prelude.{◌≡◌, ℕ, ◌+◌, ◌^◌, ◌≤◌, ◌<�
 use Rattle.playout.specs.declared.reply.FileReply.{FileReply}
 use Rattle.playout.specs.declared.reply.FileReply.TheVariants.{Accepted, Duplicate, Late, Beyond}
 use Rattle.playout.specs.declared.call.Call.{Call}
-use Rattle.playout.specs.declared.call.Call.TheVariants.{FileCall, SourceCall, BaseCall, PeekCall, TickCall}
-use Rattle.playout.specs.Machine.{Machine, Replies, after}
+use Rattle.playout.specs.declared.call.Call.TheVariants.{FileCall, SourceCall, BaseCall, PeekCall, TickCall, LookCall, HoldCall, RetireCall}
+use Rattle.playout.specs.Machine.{start, Machine, Replies, after}
 
 -- a caller's number, and its call with the reply
 pub record Entry : Type 0 where
@@ -34,25 +34,31 @@ abbrev pub calls : List Entry → List Call
 calls [] = []
 calls (e ∷ es) = e.call ∷ calls es
 
-abbrev pub tick_weight : Call → ℕ
-tick_weight (FileCall n f reply) = 0
-tick_weight (SourceCall x held) = 0
-tick_weight (BaseCall x held) = 0
-tick_weight (PeekCall held) = 0
-tick_weight (TickCall item) = 1
+-- a tick or a retire goes on by one number, no other call does
+abbrev pub move_weight : Call → ℕ
+move_weight (TickCall item) = 1
+move_weight (RetireCall item) = 1
+move_weight _ = 0
 
--- how many of the calls are ticks
-abbrev pub ticks : List Call → ℕ
-ticks [] = 0
-ticks (c ∷ cs) = tick_weight c + ticks cs
+-- how many of the calls are ticks or retires
+abbrev pub moves : List Call → ℕ
+moves [] = 0
+moves (c ∷ cs) = move_weight c + moves cs
 
--- the player, whose number is that of the filers, peeks and ticks; the filers make all other calls
+-- the number that the next tick or retire takes
+abbrev pub next_number : List Entry → ℕ
+next_number before = start + moves (calls before)
+
+-- the player, whose number is that of the filers, peeks, ticks, looks, holds and retires; the filers make all other calls
 abbrev pub MayCall : ℕ → ℕ → Call → Type 0
 MayCall filers who (FileCall n f reply) = who < filers
 MayCall filers who (SourceCall x held) = who < filers
 MayCall filers who (BaseCall x held) = who < filers
 MayCall filers who (PeekCall held) = who ≡ filers
 MayCall filers who (TickCall item) = who ≡ filers
+MayCall filers who (LookCall ahead filled) = who ≡ filers
+MayCall filers who (HoldCall held) = who ≡ filers
+MayCall filers who (RetireCall item) = who ≡ filers
 
 abbrev pub AllMayCall : ℕ → List Entry → Type 0
 AllMayCall filers [] = Unit {0}

@@ -3,10 +3,10 @@ use Rattle.std.proofs.Common.{◌≡◌, ◌≢◌, inl, inr, ⊎_elim, ℕ, ◌
 use native.Mathlib.Decide.{ℕ_discrete}
 use mathlib.Core.Bool.{Bool, cond, true, false}
 use Rattle.playout.specs.declared.call.Call.{Call}
-use Rattle.playout.specs.declared.call.Call.TheVariants.{FileCall, SourceCall, BaseCall, PeekCall, TickCall}
+use Rattle.playout.specs.declared.call.Call.TheVariants.{FileCall, TickCall, RetireCall}
 use Rattle.playout.specs.declared.reply.FileReply.TheVariants.{Accepted}
 use Rattle.playout.specs.Machine.{Machine, Replies, after}
-use Rattle.playout.specs.History.{Entry, IsLegal, after_all, calls_of, calls, ticks, tick_weight, MayCall, AllMayCall}
+use Rattle.playout.specs.History.{Entry, IsLegal, after_all, calls_of, calls, moves, move_weight, MayCall, AllMayCall}
 use Rattle.playout.specs.Plays.{WasAccepted, AllAccepted}
 
 -- the machine after one entry more
@@ -44,10 +44,10 @@ pub calls_of-other : (who : ℕ) (h : List Entry) (e : Entry) → e.who ≢ who 
 calls_of-other who [] e other = calls_of-skip who e (e.call ∷ []) [] other
 calls_of-other who (x ∷ h) e other = ap (λ t. cond (eqb x.who who) (x.call ∷ t) t) (calls_of-other who h e other)
 
--- the ticks of one call more
-pub ticks-snoc : (cs : List Call) (c : Call) → ticks (cs ++ c ∷ []) ≡ ticks cs + tick_weight c
-ticks-snoc [] c = omega arith
-ticks-snoc (x ∷ cs) c = let ih = ticks-snoc cs c in omega arith
+-- the ticks and retires of one call more
+pub moves-snoc : (cs : List Call) (c : Call) → moves (cs ++ c ∷ []) ≡ moves cs + move_weight c
+moves-snoc [] c = omega arith
+moves-snoc (x ∷ cs) c = let ih = moves-snoc cs c in omega arith
 
 -- the calls of one entry more
 pub calls-snoc : (h : List Entry) (e : Entry) → calls (h ++ e ∷ []) ≡ calls h ++ e.call ∷ []
@@ -69,22 +69,20 @@ pub all_accepted-longer : (ps : List (ℕ × List ℕ)) (h : List Entry) (e : En
 all_accepted-longer [] h e a = tt
 all_accepted-longer (p ∷ ps) h e a = (accepted-longer p.0 p.1 h e a.0, all_accepted-longer ps h e a.1)
 
--- who is not the player makes no tick
-weight_by : (filers : ℕ) (x : Entry) → MayCall filers x.who x.call → x.who ≢ filers → tick_weight x.call ≡ 0
+-- who is not the player makes no tick and no retire
+weight_by : (filers : ℕ) (x : Entry) → MayCall filers x.who x.call → x.who ≢ filers → move_weight x.call ≡ 0
 weight_by filers x m n = go x.call m
   where
-    go : (c : Call) → MayCall filers x.who c → tick_weight c ≡ 0
-    go (FileCall a b r) m = refl
-    go (SourceCall a b) m = refl
-    go (BaseCall a b) m = refl
-    go (PeekCall a) m = refl
+    go : (c : Call) → MayCall filers x.who c → move_weight c ≡ 0
     go (TickCall a) m = absurd (n m)
+    go (RetireCall a) m = absurd (n m)
+    go _ m = refl
 
--- every tick is the player's
-pub player_ticks : (filers : ℕ) (h : List Entry) → AllMayCall filers h → ticks (calls_of filers h) ≡ ticks (calls h)
-player_ticks filers [] a = refl
-player_ticks filers (x ∷ h) a = go (ℕ_discrete x.who filers) (player_ticks filers h a.1)
+-- so all of them are its own
+pub player_moves : (filers : ℕ) (h : List Entry) → AllMayCall filers h → moves (calls_of filers h) ≡ moves (calls h)
+player_moves filers [] a = refl
+player_moves filers (x ∷ h) a = go (ℕ_discrete x.who filers) (player_moves filers h a.1)
   where
-    go : Dec (x.who ≡ filers) → ticks (calls_of filers h) ≡ ticks (calls h) → ticks (cond (eqb x.who filers) (x.call ∷ calls_of filers h) (calls_of filers h)) ≡ tick_weight x.call + ticks (calls h)
-    go (yes e) ih = ap ticks (calls_of-head filers x _ _ e) ∙ ap (λ t. tick_weight x.call + t) ih
-    go (no n) ih = ap ticks (calls_of-skip filers x _ _ n) ∙ (let w = weight_by filers x a.0 n in omega arith)
+    go : Dec (x.who ≡ filers) → moves (calls_of filers h) ≡ moves (calls h) → moves (cond (eqb x.who filers) (x.call ∷ calls_of filers h) (calls_of filers h)) ≡ move_weight x.call + moves (calls h)
+    go (yes e) ih = ap moves (calls_of-head filers x _ _ e) ∙ ap (λ t. move_weight x.call + t) ih
+    go (no n) ih = ap moves (calls_of-skip filers x _ _ n) ∙ (let w = weight_by filers x a.0 n in omega arith)

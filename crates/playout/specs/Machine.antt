@@ -1,5 +1,5 @@
 -- The playout machine: what it holds, and what each call of it answers and changes.
-use Rattle.std.specs.Prelude.{◌≡◌, ℕ, ◌+◌, ◌%◌, ◌≤◌, ◌<◌, List, Option, Some, None, IsSome, refl}
+use Rattle.std.specs.Prelude.{◌≡◌, ℕ, ◌+◌, ◌%◌, ◌≤◌, ◌<◌, List, Option, Some, None, IsSome, is_some, is_none, refl}
 use Rattle.std.specs.Coded.{Coded, code_by, coded×, coded_ℕ, coded_list, coded_option}
 use Rattle.std.specs.FinMap as map
 use Rattle.std.specs.Ordering.{nat_cmp}
@@ -8,9 +8,9 @@ use Rattle.frame_codec.specs.declared.item.Item.TheVariants.{Frame, Erasure}
 use Rattle.playout.specs.declared.reply.FileReply.{FileReply}
 use Rattle.playout.specs.declared.reply.FileReply.TheVariants.{Accepted, Duplicate, Late, Beyond}
 use Rattle.playout.specs.declared.call.Call.{Call}
-use Rattle.playout.specs.declared.call.Call.TheVariants.{FileCall, SourceCall, BaseCall, PeekCall, TickCall}
+use Rattle.playout.specs.declared.call.Call.TheVariants.{FileCall, SourceCall, BaseCall, PeekCall, TickCall, LookCall, HoldCall, RetireCall}
 
--- the number of the first tick
+-- the number that the first tick or retire takes
 abbrev pub start : ℕ
 start = 4294967296
 
@@ -18,7 +18,7 @@ start = 4294967296
 abbrev pub Frames : Type 0
 Frames = map.FinMap nat_cmp (List ℕ)
 
--- the held source and base, the number that the next tick plays, and the frames that were filed and not yet played
+-- the held source and base, the number that the next tick or retire takes, and the frames that were filed and not yet taken
 pub record Machine : Type 0 where
   pub source : Option ℕ
   pub base : Option ℕ
@@ -45,7 +45,7 @@ abbrev pub held_or : Option ℕ → ℕ → ℕ
 held_or (Some held) x = held
 held_or None x = x
 
--- what a tick plays where this is held for it
+-- what a tick or a retire answers where this is held for its number
 abbrev pub item_of : Option (List ℕ) → Item
 item_of None = Erasure
 item_of (Some f) = Frame f
@@ -57,13 +57,17 @@ FileReplies r m n Duplicate = (m.position ≤ n) × (n < m.position + r) × IsSo
 FileReplies r m n (Late ahead) = (n < m.position) × IsAhead r m.position n ahead
 FileReplies r m n (Beyond ahead) = (m.position + r ≤ n) × IsAhead r m.position n ahead
 
--- the reply in this call is the machine's
+-- the reply in this call is the machine's. A look tells whether a frame waits so many numbers ahead, less than the slots; a hold whether none waits
+-- under the position; a tick and a retire answer what waits there
 abbrev pub Replies : ℕ → Machine → Call → Type 0
 Replies r m (FileCall n f reply) = FileReplies r m n reply
 Replies r m (SourceCall x held) = held ≡ held_or m.source x
 Replies r m (BaseCall x held) = held ≡ held_or m.base x
 Replies r m (PeekCall held) = held ≡ m.base
 Replies r m (TickCall item) = item ≡ item_of (map.get m.frames m.position)
+Replies r m (LookCall ahead filled) = (ahead < r) × (filled ≡ is_some (map.get m.frames (m.position + ahead)))
+Replies r m (HoldCall held) = held ≡ is_none (map.get m.frames m.position)
+Replies r m (RetireCall item) = item ≡ item_of (map.get m.frames m.position)
 
 -- only Accepted changes the machine
 abbrev pub filed : Machine → ℕ → List ℕ → FileReply → Machine
@@ -72,10 +76,17 @@ filed m n f Duplicate = m
 filed m n f (Late ahead) = m
 filed m n f (Beyond ahead) = m
 
+-- what waits under the position is taken out, and the position goes on by one
+abbrev pub passed : Machine → Machine
+passed m = record m { position = m.position + 1; frames = map.remove m.frames m.position }
+
 -- the machine after a call
 abbrev pub after : Machine → Call → Machine
 after m (FileCall n f reply) = filed m n f reply
 after m (SourceCall x held) = record m { source = Some held }
 after m (BaseCall x held) = record m { base = Some held }
 after m (PeekCall held) = m
-after m (TickCall item) = record m { position = m.position + 1; frames = map.remove m.frames m.position }
+after m (TickCall item) = passed m
+after m (LookCall ahead filled) = m
+after m (HoldCall held) = m
+after m (RetireCall item) = passed m

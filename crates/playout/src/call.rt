@@ -29,4 +29,17 @@ pub enum Call {
     TickCall {
         item: Item,
     },
+    /// The player looks whether a frame waits so many numbers ahead, fewer than the line has slots.
+    LookCall {
+        ahead: u32,
+        filled: bool,
+    },
+    /// The player lets a beat pass at the same number where no frame waits under it.
+    HoldCall {
+        held: bool,
+    },
+    /// The player takes the item of the next number and does not play it. It is never `Idle`.
+    RetireCall {
+        item: Item,
+    },
 }

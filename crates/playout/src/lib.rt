@@ -14,7 +14,8 @@ pub use call::Call;
 pub use gate_base::OutOfMemory;
 pub use laws::{
     accepted_once, ahead_is_least, causes_are_one, causes_give_replies, first_is_held,
-    replies_are_one, replies_have_causes, ticks_play_accepted,
+    looks_tell_accepted, position_counts_moves, replies_are_one, replies_have_causes,
+    retires_take_accepted, ticks_play_accepted,
 };
 pub use map_filer::MapFiler;
 pub use map_line::MapLine;

@@ -1,10 +1,11 @@
 // A line on one thread.
-ghost use Rattle.std.specs.Prelude.{◌≡◌, ◌≢◌, ◌<◌, ◌≤◌, ◌+◌, ◌^◌, ◌↔◌, IfOk, IsTrue};
+ghost use Rattle.std.specs.Prelude.{◌≡◌, ◌≢◌, ◌<◌, ◌≤◌, ◌+◌, ◌^◌, ◌↔◌, IfOk, IsTrue, is_some};
 ghost use Rattle.std.specs.FinMap as map;
 ghost use Rattle.playout.specs.Machine.{opening_machine, held_or, item_of, FileReplies, IsAhead, Replies, filed};
 ghost use Rattle.playout.specs.Line.{Steps};
 ghost use Rattle.playout.specs.History.{ReplyFits};
 ghost use Rattle.playout.specs.declared.call.Call.{Call};
+ghost use Rattle.playout.specs.declared.reply.FileReply.{FileReply};
 
 use crate::call::Call;
 use crate::pairs::{front_of, place_of, take_front};
@@ -14,7 +15,7 @@ use gate_base::OutOfMemory;
 use std::alloc::Global;
 use std::marker::Model;
 
-/// The number of the first tick.
+/// The number that the first tick or retire takes.
 const START: u64 = 1 << 32;
 
 /// A playout machine for one thread, over a sorted list. It is seen as its numbers of filers and slots and
@@ -112,7 +113,7 @@ impl MapLine {
         })
     }
 
-    /// The number that the next tick plays.
+    /// The number that the next tick or retire takes.
     pub fn position(&self) -> u64
         ensures value { result ≡ self.now.machine.position }
         ensures started { 2 ^ 32 ≤ result }
@@ -167,24 +168,11 @@ impl MapLine {
         ensures fits { ReplyFits number result }
     {
         let _ = who;
-        let slots = slots_of(self.g);
-        if number < self.position {
-            return FileReply::Late {
-                ahead: ahead_of(slots, self.position, number),
-            };
+        let reply = self.reply_to(number);
+        if let FileReply::Accepted = reply {
+            self.keep(number, frame);
         }
-        if self.position + slots <= number {
-            return FileReply::Beyond {
-                ahead: ahead_of(slots, self.position, number),
-            };
-        }
-        match place_of(&self.pairs, number) {
-            Ok(_) => FileReply::Duplicate,
-            Err(at) => {
-                self.pairs.insert(at, (number, *frame)).unwrap();
-                FileReply::Accepted
-            }
-        }
+        reply
     }
 
     /// Takes the item of the next number, which is never `Idle`, and goes on by one. A tick is 20 ms.
@@ -198,6 +186,30 @@ impl MapLine {
         item_of(front)
     }
 
+    /// Whether a frame waits so many numbers ahead of the next one. Nothing changes.
+    pub fn look(&self, ahead: u32) -> bool
+        requires { ahead < 2 ^ self.now.g }
+        ensures { Replies (2 ^ self.now.g) self.now.machine (Call.LookCall ahead result) }
+    {
+        self.waits(self.position + ahead as u64)
+    }
+
+    /// Whether no frame waits under the next number, so that a beat may pass there. Nothing changes.
+    pub fn hold(&self) -> bool
+        ensures { Replies (2 ^ self.now.g) self.now.machine (Call.HoldCall result) }
+    {
+        !self.waits(self.position)
+    }
+
+    /// Takes the item of the next number as a tick does, and goes on by one. It is not to be played.
+    pub fn retire(&mut self) -> Item
+        requires { self.old.machine.position < 2 ^ 33 }
+        ensures step { Steps self.old (Call.RetireCall result) self.new }
+        ensures taken { result ≢ Item.Idle }
+    {
+        self.tick()
+    }
+
     /// Whether the line would reply to a call as the call has it. Nothing is called.
     pub fn can(&self, call: &Call) -> bool
         ensures { IsTrue result ↔ Replies (2 ^ self.now.g) self.now.machine call.now }
@@ -208,12 +220,19 @@ impl MapLine {
             Call::BaseCall { ts, held } => *held == held_or(self.base, *ts),
             Call::PeekCall { held } => *held == self.base,
             Call::TickCall { item } => same_item(item, &self.next_item()),
+            Call::LookCall { ahead, filled } => {
+                (*ahead as u64) < slots_of(self.g)
+                    && *filled == self.waits(self.position + *ahead as u64)
+            }
+            Call::HoldCall { held } => *held == self.hold(),
+            Call::RetireCall { item } => same_item(item, &self.next_item()),
         }
     }
 
     // The answer to a frame of this number.
     fn reply_to(&self, number: u64) -> FileReply
-        ensures { FileReplies (2 ^ self.now.g) self.now.machine number result }
+        ensures reply { FileReplies (2 ^ self.now.g) self.now.machine number result }
+        ensures fits { ReplyFits number result }
     {
         let slots = slots_of(self.g);
         let first = self.position;
@@ -232,6 +251,23 @@ impl MapLine {
             Ok(_) => FileReply::Duplicate,
             Err(_) => FileReply::Accepted,
         }
+    }
+
+    // Puts a frame that is accepted in its place.
+    fn keep(&mut self, number: u64, frame: &Frame33)
+        requires { FileReplies (2 ^ self.old.g) self.old.machine number FileReply.Accepted }
+        ensures { self.new ≡ record self.old { machine = filed self.old.machine number frame.now FileReply.Accepted } }
+    {
+        if let Err(at) = place_of(&self.pairs, number) {
+            self.pairs.insert(at, (number, *frame)).unwrap();
+        }
+    }
+
+    // Whether a frame waits under this number.
+    fn waits(&self, number: u64) -> bool
+        ensures { result ≡ is_some (map.get self.now.machine.frames number) }
+    {
+        place_of(&self.pairs, number).is_ok()
     }
 
     // The item of the next number.

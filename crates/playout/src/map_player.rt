@@ -46,11 +46,25 @@ impl PlayerSide for MapPlayer {
 
     ghost position = { λ s. s.machine.position };
 
+    ghost g = { λ s. s.g };
+
     fn peek(&mut self) -> Option<u32> {
         self.line.peek()
     }
 
     fn tick(&mut self) -> Item {
         self.line.tick()
+    }
+
+    fn look(&mut self, ahead: u32) -> bool {
+        self.line.look(ahead)
+    }
+
+    fn hold(&mut self) -> bool {
+        self.line.hold()
+    }
+
+    fn retire(&mut self) -> Item {
+        self.line.retire()
     }
 }

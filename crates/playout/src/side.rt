@@ -32,18 +32,46 @@ pub trait PlayerSide {
     /// The side went from an earlier state to a later one by this call, with the reply in it.
     ghost did: { Self → Call → Self → Type 0 };
 
-    /// The number that the next tick plays.
+    /// The number that the next tick or retire takes.
     ghost position: { Self → ℕ };
+
+    /// There are 2 ^ g slots.
+    ghost g: { Self → ℕ };
 
     /// Answers the base that is held, or none as long as no packet came.
     fn peek(&mut self) -> Option<u32>
         ensures did { did self.old (Call.PeekCall result) self.new }
-        ensures stays { position self.new ≡ position self.old };
+        ensures stays { position self.new ≡ position self.old }
+        ensures slots { g self.new ≡ g self.old };
 
     /// Takes the item of the next number: its frame, or an erasure where none was filed.
     fn tick(&mut self) -> Item
         requires { position self.old < 2 ^ 33 }
         ensures did { did self.old (Call.TickCall result) self.new }
         ensures goes_on { position self.new ≡ position self.old + 1 }
+        ensures slots { g self.new ≡ g self.old }
         ensures played { result ≢ Item.Idle };
+
+    /// Whether a frame waits so many numbers ahead of the next one. Nothing is taken.
+    fn look(&mut self, ahead: u32) -> bool
+        requires slot { ahead < 2 ^ g self.old }
+        requires position { position self.old < 2 ^ 33 }
+        ensures did { did self.old (Call.LookCall ahead result) self.new }
+        ensures stays { position self.new ≡ position self.old }
+        ensures slots { g self.new ≡ g self.old };
+
+    /// Lets a beat pass at the same number where no frame waits under it, and answers whether none does.
+    fn hold(&mut self) -> bool
+        requires { position self.old < 2 ^ 33 }
+        ensures did { did self.old (Call.HoldCall result) self.new }
+        ensures stays { position self.new ≡ position self.old }
+        ensures slots { g self.new ≡ g self.old };
+
+    /// Takes the item of the next number and leaves it unplayed: its frame, or an erasure where none was filed.
+    fn retire(&mut self) -> Item
+        requires { position self.old < 2 ^ 33 }
+        ensures did { did self.old (Call.RetireCall result) self.new }
+        ensures goes_on { position self.new ≡ position self.old + 1 }
+        ensures slots { g self.new ≡ g self.old }
+        ensures taken { result ≢ Item.Idle };
 }

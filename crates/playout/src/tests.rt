@@ -1,5 +1,5 @@
 // The machine by hand, and its sides.
-ghost use Rattle.std.specs.Prelude.{◌<◌, ◌^◌};
+ghost use Rattle.std.specs.Prelude.{◌≡◌, ◌+◌, ◌<◌, ◌^◌};
 
 use super::*;
 use frame_codec::{Frame33, Item, frame_of};
@@ -73,6 +73,16 @@ fn peek_and_play<S: PlayerSide>(side: &mut S) -> (Option<u32>, Item)
     (base, side.tick())
 }
 
+// What the player looks at, whether it may hold, and what it retires then.
+fn look_and_retire<S: PlayerSide>(side: &mut S) -> (bool, bool, Item)
+    requires slot { 1 < 2 ^ S.g side.old }
+    requires position { S.position side.old < 2 ^ 33 }
+{
+    let ahead = side.look(1);
+    let held = side.hold();
+    (ahead, held, side.retire())
+}
+
 #[test]
 fn sides_share_a_line(rt: HostRuntime) -> Result<(), Fail> {
     let z = frame_of(&Z)?;
@@ -93,4 +103,97 @@ fn sides_share_a_line(rt: HostRuntime) -> Result<(), Fail> {
     assert!(rt; line.position() == START + 1);
     assert_eq!(rt; line.tick(), Item::Erasure);
     Ok(())
+}
+
+#[test]
+fn a_player_looks_holds_and_retires_by_its_side(rt: HostRuntime) -> Result<(), Fail> {
+    let z = frame_of(&Z)?;
+    let mut line = MapLine::new(rt.alloc(), 1, 2)?;
+    assert_eq!(rt; line.file(0, START + 1, &z), FileReply::Accepted);
+    let mut player = MapPlayer::of(line);
+    assert_eq!(rt; look_and_retire(&mut player), (true, true, Item::Erasure));
+    let mut line = player.back();
+    assert!(rt; line.position() == START + 1);
+    assert_eq!(rt; line.tick(), Item::Frame(z));
+    Ok(())
+}
+
+// Filed and played, and then a beat that passes at the number of the next frame.
+fn hold_behind_a_frame(line: &mut MapLine, frame: &Frame33) -> (FileReply, bool, Item, bool)
+    requires caller { 0 < line.old.filers }
+    requires position { line.old.machine.position < 2 ^ 33 }
+    ensures filers { line.new.filers ≡ line.old.filers }
+    ensures slots { line.new.g ≡ line.old.g }
+    ensures goes_on { line.new.machine.position ≡ line.old.machine.position + 1 }
+{
+    let reply = line.file(0, START, frame);
+    let first = line.hold();
+    let item = line.tick();
+    (reply, first, item, line.hold())
+}
+
+#[test]
+fn a_late_frame_is_held_for(rt: HostRuntime) -> Result<(), Fail> {
+    let (z, w) = (frame_of(&Z)?, frame_of(&W)?);
+    let mut line = MapLine::new(rt.alloc(), 1, 2)?;
+    assert_eq!(rt; line.source(0, 305419896), 305419896);
+    assert_eq!(rt; line.base(0, 1000), 1000);
+    assert_eq!(rt; line.peek(), Some(1000));
+    assert_eq!(rt;
+        hold_behind_a_frame(&mut line, &z),
+        (FileReply::Accepted, false, Item::Frame(z), true)
+    );
+    assert_eq!(rt; line.file(0, START + 1, &w), FileReply::Accepted);
+    assert!(rt; line.look(0));
+    assert_eq!(rt; line.tick(), Item::Frame(w));
+    assert!(rt; line.position() == START + 2);
+    Ok(())
+}
+
+#[test]
+fn a_lost_frame_is_retired(rt: HostRuntime) -> Result<(), Fail> {
+    let (z, w) = (frame_of(&Z)?, frame_of(&W)?);
+    let mut line = MapLine::new(rt.alloc(), 1, 2)?;
+    assert_eq!(rt; line.source(0, 305419896), 305419896);
+    assert_eq!(rt; line.base(0, 1000), 1000);
+    assert_eq!(rt; line.peek(), Some(1000));
+    assert_eq!(rt;
+        hold_behind_a_frame(&mut line, &z),
+        (FileReply::Accepted, false, Item::Frame(z), true)
+    );
+    assert_eq!(rt; line.file(0, START + 2, &w), FileReply::Accepted);
+    assert!(rt; !line.look(0));
+    assert!(rt; line.look(1));
+    assert!(rt;
+        line.can(&Call::LookCall {
+            ahead: 1,
+            filled: true
+        })
+    );
+    assert!(rt;
+        !line.can(&Call::LookCall {
+            ahead: 5,
+            filled: true
+        })
+    );
+    assert_eq!(rt; line.retire(), Item::Erasure);
+    assert!(rt; line.can(&Call::HoldCall { held: false }));
+    assert_eq!(rt; line.tick(), Item::Frame(w));
+    assert!(rt; line.position() == START + 3);
+    Ok(())
+}
+
+#[test]
+fn each_law_is_called() {
+    ticks_play_accepted();
+    retires_take_accepted();
+    accepted_once();
+    position_counts_moves();
+    replies_are_one();
+    ahead_is_least();
+    replies_have_causes();
+    causes_give_replies();
+    causes_are_one();
+    first_is_held();
+    looks_tell_accepted();
 }
