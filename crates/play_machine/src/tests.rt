@@ -275,3 +275,61 @@ fn two_filers_share_a_slot(rt: HostRuntime) -> Result<(), Fail> {
     assert!(rt; state.calls(2) == played.as_slice());
     Ok(())
 }
+
+// A beat passes at a number that is lost, which the player retires once the next one is there.
+#[test]
+fn a_player_holds_looks_and_retires(rt: HostRuntime) -> Result<(), Fail> {
+    let (z, w) = (frame_of(&Z)?, frame_of(&W)?);
+    let load = |number, frame| CoreEvent::Load {
+        seat: 1,
+        number,
+        frame,
+    };
+    let events = [
+        CoreEvent::Split { seat: 0, right: 0 },
+        CoreEvent::Look { seat: 0, ahead: 0 },
+        CoreEvent::Enlist { seat: 1, berth: 0 },
+        CoreEvent::Enlist { seat: 0, berth: 1 },
+        CoreEvent::Hold { seat: 1 },
+        CoreEvent::Retire { seat: 1 },
+        CoreEvent::Hold { seat: 0 },
+        load(START + 1, z),
+        CoreEvent::Look { seat: 0, ahead: 1 },
+        CoreEvent::Publish { seat: 1 },
+        CoreEvent::Look { seat: 0, ahead: 1 },
+        CoreEvent::Look { seat: 0, ahead: 2 },
+        CoreEvent::Look { seat: 0, ahead: 0 },
+        CoreEvent::Retire { seat: 0 },
+        CoreEvent::Hold { seat: 0 },
+        CoreEvent::Retire { seat: 0 },
+        load(START + 1, w),
+    ];
+    let events = events.to_vec(rt.alloc())?;
+    let state = core_run(rt.alloc(), 1, 1, &events)?;
+    let look = |ahead, filled| Call::LookCall { ahead, filled };
+    let filed = |frame, reply| Call::FileCall {
+        number: START + 1,
+        frame,
+        reply,
+    };
+    let files = [
+        filed(z, FileReply::Accepted),
+        filed(w, FileReply::Late { ahead: START + 3 }),
+    ];
+    let asked = [
+        Call::HoldCall { held: true },
+        look(1, false),
+        look(1, true),
+        look(0, false),
+        Call::RetireCall {
+            item: Item::Erasure,
+        },
+        Call::HoldCall { held: false },
+        Call::RetireCall {
+            item: Item::Frame(z),
+        },
+    ];
+    assert!(rt; state.calls(0) == files.as_slice());
+    assert!(rt; state.calls(1) == asked.as_slice());
+    Ok(())
+}

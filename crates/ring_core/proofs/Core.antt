@@ -1,12 +1,16 @@
 -- The rule holds after all events.
-use Rattle.std.proofs.Common.{◌≡◌, ◌≢◌, ℕ, zero, suc, ◌-◌, ◌%◌, ◌^◌, ◌<◌, ◌≤◌, eqb, List, [], ◌∷◌, Option, Some, None, Bool, true, false, true≢false, cond, refl, sym, ap, ◌∙◌, subst, arith}
+use Rattle.std.proofs.Common.{◌≡◌, ◌≢◌, ℕ, zero, suc, ◌+◌, ◌-◌, ◌%◌, ◌^◌, ◌<◌, ◌≤◌, eqb, List, [], ◌∷◌, Option, Some, None, Bool, true, false, true≢false, cond, refl, sym, ap, ◌∙◌, subst, arith}
 use Rattle.std.specs.Prelude.{nat_lt, ◌&&◌, slice_get}
 use Rattle.std.proofs.lemmas.Bool.Decides.{nat_tests}
 use mathlib.Core.Option as maybe
 use lib.ListN.{get_elem?}
 use Rattle.playout.specs.declared.call.Call.{Call}
 use Rattle.ring_core.specs.declared.event.CoreEvent.{CoreEvent}
-use Rattle.ring_core.specs.declared.event.CoreEvent.TheVariants.{Enlist, Load, Publish, Tick, Leave, Split, Learn, Gather, Source, Base, Peek}
+use Rattle.ring_core.specs.declared.event.CoreEvent.TheVariants.{Enlist, Load, Publish, Tick, Leave, Split, Learn, Gather, Source, Base, Peek, Look, Retire, Hold}
+use Rattle.ring_core.specs.declared.player_steps.Move.{Move}
+use Rattle.ring_core.specs.declared.player_steps.Move.TheVariants.{Played, Retired}
+use Rattle.ring_core.specs.declared.player_steps.Glance.{Glance}
+use Rattle.ring_core.specs.declared.player_steps.Glance.TheVariants.{Ahead, Here}
 use Rattle.ring_core.specs.declared.views.Shape.{Shape}
 use Rattle.ring_core.specs.declared.views.Known.{Known}
 use Rattle.ring_core.specs.declared.views.Flight.{Flight}
@@ -21,12 +25,13 @@ use Rattle.ring_core.specs.declared.words.Berth.{Berth}
 use Rattle.ring_core.specs.declared.words.Berth.TheVariants.{Fresh, Out, Home}
 use Rattle.ring_core.specs.declared.words.Cell.TheVariants.{AtHome}
 use Rattle.ring_core.specs.Ring.{Ring, slot_count, word_of, Place, in_slot, StandsIn, FlightFits, RingRule}
-use Rattle.ring_core.specs.Steps.{caller_view, pool_view, note_view, gone_view, position_of, loaded, view_at, publish_at, free_word}
+use Rattle.ring_core.specs.Steps.{caller_view, pool_view, note_view, gone_view, position_of, ahead_of, loaded, view_at, publish_at, free_word}
 use Rattle.ring_core.specs.Opening.{opening_ring}
-use Rattle.ring_core.specs.Core.{kept_in, view_role, held_in, no_lists, on_ground, is_player, is_filer, tick_word, tick_role, load_word, load_role, publish_word, publish_flight, publish_role, enlist_berth, enlist_right, enlist_role, leave_role, split_right, split_role, learn_roles, gather_roles, source_word, source_role, base_word, base_role, peek_role, role_at, happens, run}
+use Rattle.ring_core.specs.Core.{kept_in, view_role, held_in, no_lists, on_ground, is_player, is_filer, move_word, move_role, glance_word, glance_role, load_word, load_role, publish_word, publish_flight, publish_role, enlist_berth, enlist_right, enlist_role, leave_role, split_right, split_role, learn_roles, gather_roles, source_word, source_role, base_word, base_role, peek_role, role_at, happens, run}
 use Rattle.ring_core.specs.HeldLaws.{held_is}
 use Rattle.ring_core.specs.ListPlaces.{at_exists, at_one}
-use Rattle.ring_core.proofs.Tick.{tick_keeps}
+use Rattle.ring_core.proofs.Moves.{move_keeps}
+use Rattle.ring_core.proofs.Glances.{glance_keeps}
 use Rattle.ring_core.proofs.Replied.{load_keeps}
 use Rattle.ring_core.proofs.Publish.{publish_keeps}
 use Rattle.ring_core.proofs.Enlist.{enlist_keeps}
@@ -106,16 +111,28 @@ module _ (k : Shape) (s : Ring) (rule : RingRule k s) (id : ℕ) where
   abbrev Sees : Role → Type 0
   Sees r = get_elem? s.views id ≡ maybe.some (record { shape = k; role = r })
 
-  tick_word_keeps : (c : Calling) → Sees (Caller c) → c.who ≡ k.filers → position_of c < 2 ^ 33 → (o : maybe.Option SlotWord) → get_elem? s.slots (position_of c % slot_count k) ≡ o → RingRule k (tick_word k s id c o)
-  tick_word_keeps c at player below maybe.none e = rule
-  tick_word_keeps c at player below (maybe.some w) e = tick_keeps k s rule id c w _ None at player below e (kept_is k s rule _ w e)
+  move_word_keeps : (c : Calling) (v : Move) → Sees (Caller c) → c.who ≡ k.filers → position_of c < 2 ^ 33 → (o : maybe.Option SlotWord) → get_elem? s.slots (position_of c % slot_count k) ≡ o → RingRule k (move_word k s id c v o)
+  move_word_keeps c v at player below maybe.none e = rule
+  move_word_keeps c v at player below (maybe.some w) e = move_keeps k s rule id c v w _ None at player below e (kept_is k s rule _ w e)
 
-  tick_role_keeps : (r : Role) → (r ≢ Spent → Sees r) → RingRule k (tick_role k s id r)
-  tick_role_keeps (Caller c) at = if_keeps k (is_player k c && nat_lt (position_of c) 8589934592) s _ (λ t. let b = both_true _ _ t in tick_word_keeps c (at (caller_spent c)) (eq_of _ _ b.0) (lt_of _ _ b.1) (get_elem? s.slots (position_of c % slot_count k)) refl) rule
-  tick_role_keeps (Pool p) at = rule
-  tick_role_keeps (Departed d) at = rule
-  tick_role_keeps (Note n) at = rule
-  tick_role_keeps Spent at = rule
+  move_role_keeps : (v : Move) (r : Role) → (r ≢ Spent → Sees r) → RingRule k (move_role k s id v r)
+  move_role_keeps v (Caller c) at = if_keeps k (is_player k c && nat_lt (position_of c) 8589934592) s _ (λ t. let b = both_true _ _ t in move_word_keeps c v (at (caller_spent c)) (eq_of _ _ b.0) (lt_of _ _ b.1) (get_elem? s.slots (position_of c % slot_count k)) refl) rule
+  move_role_keeps v (Pool p) at = rule
+  move_role_keeps v (Departed d) at = rule
+  move_role_keeps v (Note n) at = rule
+  move_role_keeps v Spent at = rule
+
+  glance_word_keeps : (c : Calling) (v : Glance) → Sees (Caller c) → c.who ≡ k.filers → ahead_of v < slot_count k → (o : maybe.Option SlotWord) → get_elem? s.slots ((position_of c + ahead_of v) % slot_count k) ≡ o → RingRule k (glance_word k s id c v o)
+  glance_word_keeps c v at player low maybe.none e = rule
+  glance_word_keeps c v at player low (maybe.some w) e = glance_keeps k s rule id c v w (at, player) low e
+
+  glance_role_keeps : (v : Glance) (r : Role) → (r ≢ Spent → Sees r) → RingRule k (glance_role k s id v r)
+  glance_role_keeps v (Caller c) at =
+      if_keeps k (is_player k c && nat_lt (ahead_of v) (slot_count k)) s _ (λ t. let b = both_true _ _ t in glance_word_keeps c v (at (caller_spent c)) (eq_of _ _ b.0) (lt_of _ _ b.1) (get_elem? s.slots ((position_of c + ahead_of v) % slot_count k)) refl) rule
+  glance_role_keeps v (Pool p) at = rule
+  glance_role_keeps v (Departed d) at = rule
+  glance_role_keeps v (Note n) at = rule
+  glance_role_keeps v Spent at = rule
 
   load_word_keeps : (c : Calling) (n : ℕ) (f : List ℕ) → Sees (Caller c) → c.who < k.filers → (o : maybe.Option SlotWord) → get_elem? s.slots (n % slot_count k) ≡ o → RingRule k (load_word k s id c n f o)
   load_word_keeps c n f at filer maybe.none e = rule
@@ -260,7 +277,7 @@ pub happens_keeps : (k : Shape) (s : Ring) (e : CoreEvent) → RingRule k s → 
 happens_keeps k s (Enlist seat berth) rule = enlist_role_keeps k s rule seat berth (role_at s seat) (seen k s rule seat)
 happens_keeps k s (Load seat n f) rule = load_role_keeps k s rule seat n f (role_at s seat) (seen k s rule seat)
 happens_keeps k s (Publish seat) rule = publish_role_keeps k s rule seat (role_at s seat) (seen k s rule seat)
-happens_keeps k s (Tick seat) rule = tick_role_keeps k s rule seat (role_at s seat) (seen k s rule seat)
+happens_keeps k s (Tick seat) rule = move_role_keeps k s rule seat Played (role_at s seat) (seen k s rule seat)
 happens_keeps k s (Leave seat) rule = leave_role_keeps k s rule seat (role_at s seat) (seen k s rule seat)
 happens_keeps k s (Split seat who) rule = split_role_keeps k s rule seat who (role_at s seat) (seen k s rule seat)
 happens_keeps k s (Learn seat note) rule = learn_roles_keep k s rule seat note (role_at s seat) (role_at s note) (seen k s rule seat) (seen k s rule note)
@@ -268,6 +285,9 @@ happens_keeps k s (Gather seat other) rule = gather_roles_keep k s rule seat oth
 happens_keeps k s (Source seat x) rule = source_role_keeps k s rule seat x (role_at s seat) (seen k s rule seat)
 happens_keeps k s (Base seat x) rule = base_role_keeps k s rule seat x (role_at s seat) (seen k s rule seat)
 happens_keeps k s (Peek seat) rule = peek_role_keeps k s rule seat (role_at s seat) (seen k s rule seat)
+happens_keeps k s (Look seat ahead) rule = glance_role_keeps k s rule seat (Ahead ahead) (role_at s seat) (seen k s rule seat)
+happens_keeps k s (Retire seat) rule = move_role_keeps k s rule seat Retired (role_at s seat) (seen k s rule seat)
+happens_keeps k s (Hold seat) rule = glance_role_keeps k s rule seat Here (role_at s seat) (seen k s rule seat)
 
 pub run_keeps : (k : Shape) (s : Ring) (es : List CoreEvent) → RingRule k s → RingRule k (run k s es)
 run_keeps k s [] rule = rule

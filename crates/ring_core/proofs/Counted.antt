@@ -2,12 +2,12 @@
 use Rattle.std.proofs.Common.{◌≡◌, ℕ, zero, suc, ◌+◌, ◌<◌, List, [], ◌∷◌, ◌++◌, length, get_or, take, true, false, true≢false, Option, Some, None, is_some, refl, sym, ap, ◌∙◌, arith}
 use Rattle.std.proofs.lemmas.List.{take_more}
 use Rattle.playout.specs.declared.call.Call.{Call}
-use Rattle.playout.specs.History.{ticks, tick_weight}
+use Rattle.playout.specs.History.{moves, move_weight}
 use Rattle.ring_core.specs.Core.{no_lists}
-use Rattle.playout.specs.LongerHistory.{ticks-snoc}
+use Rattle.playout.specs.LongerHistory.{moves-snoc}
 
-pub ticks_more : (l : List Call) (i : ℕ) (c : Call) → i < length l → c ≡ get_or l i c → ticks (take (i + 1) l) ≡ ticks (take i l) + tick_weight c
-ticks_more l i c below is = ap ticks (take_more l i c below) ∙ (ap (λ (x : Call). ticks (take i l ++ x ∷ [])) (sym is) ∙ ticks-snoc (take i l) c)
+pub moves_more : (l : List Call) (i : ℕ) (c : Call) → i < length l → c ≡ get_or l i c → moves (take (i + 1) l) ≡ moves (take i l) + move_weight c
+moves_more l i c below is = ap moves (take_more l i c below) ∙ (ap (λ (x : Call). moves (take i l ++ x ∷ [])) (sym is) ∙ moves-snoc (take i l) c)
 
 abbrev Lists : Type 0
 Lists = List (Option (List Call))

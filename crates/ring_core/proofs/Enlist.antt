@@ -12,7 +12,7 @@ use Rattle.ring_core.specs.declared.views.Role.{Role}
 use Rattle.ring_core.specs.declared.views.Role.TheVariants.{Pool, Caller, Departed, Note, Spent}
 use Rattle.ring_core.specs.declared.views.View.{View}
 use Rattle.playout.specs.Machine.{start, Machine, opening_machine}
-use Rattle.playout.specs.History.{after_all, calls, calls_of, ticks}
+use Rattle.playout.specs.History.{after_all, calls, calls_of, moves}
 use Rattle.ring_core.specs.declared.words.SlotWord.{SlotWord}
 use Rattle.ring_core.specs.declared.words.Berth.{Berth}
 use Rattle.ring_core.specs.declared.words.Berth.TheVariants.{Fresh, Out}
@@ -175,5 +175,5 @@ module _ (k : Shape) (s : Ring) (rule : RingRule k s) (id : ℕ) (p : Pooling) (
       newly : RoleFits t (slot_count k) m rule.history k.filers (Caller c)
       newly =
           let near = at_below s.berths who (Fresh cell) berth in let n : ℕ = length s.berths in let wide : n ≡ k.filers + 1 = rule.sized.berths in
-          let a : m.position ≡ start + ticks (calls rule.history) = rule.position in
+          let a : m.position ≡ start + moves (calls rule.history) = rule.position in
           (omega arith, record { pairs = tt; position = omega arith; source = λ x e. absurd (no_value x e); base = λ x e. absurd (no_value x e) }, tt)

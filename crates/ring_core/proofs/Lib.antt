@@ -2,8 +2,9 @@ pub mod Elements
 pub mod Seats
 pub mod Cells
 pub mod Kept
-pub mod Tick
+pub mod Moves
 pub mod Replied
+pub mod Glances
 pub mod Publish
 pub mod Fresh
 pub mod Split

@@ -12,12 +12,12 @@ use Rattle.ring_core.specs.declared.views.Calling.{Calling}
 use Rattle.ring_core.specs.declared.views.Role.TheVariants.{Caller, Spent}
 use Rattle.ring_core.specs.declared.views.View.{View}
 use Rattle.playout.specs.Machine.{start, Machine, opening_machine, after, Replies}
-use Rattle.playout.specs.History.{Entry, entry, after_all, calls, ticks}
+use Rattle.playout.specs.History.{Entry, entry, after_all, calls, moves}
 use Rattle.ring_core.specs.declared.words.SlotWord.{SlotWord}
 use Rattle.ring_core.specs.declared.words.Cell.TheVariants.{AtHome, OutWith}
 use Rattle.ring_core.specs.Ring.{Ring, slot_count, word_of, SlotFits, RoleFits, RingRule}
 use Rattle.ring_core.specs.Steps.{caller_view, full_word, free_word, published, publish_at}
-use Rattle.playout.specs.LongerHistory.{after_all-snoc, legal-snoc, callers-snoc, ticks-snoc, calls-snoc, accepted-last, all_accepted-longer}
+use Rattle.playout.specs.LongerHistory.{after_all-snoc, legal-snoc, callers-snoc, moves-snoc, calls-snoc, accepted-last, all_accepted-longer}
 use Rattle.playout.specs.FrameLaws.{get-insert_here, get-insert_else}
 use Rattle.ring_core.proofs.Cells as cells
 use Rattle.ring_core.proofs.Kept.{callers_after, role_kept}
@@ -129,5 +129,5 @@ module _ (k : Shape) (s : Ring) (rule : RingRule k s) (id : ℕ) (c : Calling) (
         base = rule.base ∙ ap (λ (q : Machine). word_of q.base) (sym now);
       }
     where
-      counted : ticks (calls h) ≡ ticks (calls rule.history)
-      counted = let a = ap ticks (calls-snoc rule.history e) in let b = ticks-snoc (calls rule.history) call in omega arith
+      counted : moves (calls h) ≡ moves (calls rule.history)
+      counted = let a = ap moves (calls-snoc rule.history e) in let b = moves-snoc (calls rule.history) call in omega arith

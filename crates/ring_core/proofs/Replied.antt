@@ -16,7 +16,7 @@ use Rattle.ring_core.specs.declared.views.Role.{Role}
 use Rattle.ring_core.specs.declared.views.Role.TheVariants.{Pool, Caller, Departed, Note, Spent}
 use Rattle.ring_core.specs.declared.views.View.{View}
 use Rattle.playout.specs.Machine.{start, Machine, opening_machine, Replies, after}
-use Rattle.playout.specs.History.{Entry, entry, after_all, calls_of, calls, ticks, tick_weight, IsLegal, MayCall, AllMayCall}
+use Rattle.playout.specs.History.{Entry, entry, after_all, calls_of, calls, moves, move_weight, IsLegal, MayCall, AllMayCall}
 use Rattle.ring_core.specs.declared.words.SlotWord.{SlotWord}
 use Rattle.ring_core.specs.declared.words.Berth.{Berth}
 use Rattle.ring_core.specs.Ring.{Ring, slot_count, word_of, Place, in_slot, in_berth, with_seat, Names, CallerStands, SlotFits, KnownFits, FlightFits, RoleFits, RingRule}
@@ -24,7 +24,7 @@ use Rattle.ring_core.specs.Steps.{caller_view, in_flight, replied, late, loaded_
 use Rattle.ring_core.specs.ListPlaces.{at_one}
 use Rattle.ring_core.specs.RuleLaws.{list_is}
 use Rattle.playout.specs.Turns.{turn_apart}
-use Rattle.playout.specs.LongerHistory.{after_all-snoc, legal-snoc, callers-snoc, ticks-snoc, calls-snoc}
+use Rattle.playout.specs.LongerHistory.{after_all-snoc, legal-snoc, callers-snoc, moves-snoc, calls-snoc}
 use Rattle.ring_core.proofs.Seats.{set_at, stands_kept, calling_kept, known_kept}
 use Rattle.ring_core.proofs.Kept.{callers_after, same_callers}
 
@@ -76,7 +76,7 @@ module _ (k : Shape) (s : Ring) (rule : RingRule k s) (id : ℕ) (c d : Calling)
           (caller_view k d, d, subst (λ (y : ℕ). get_elem? t.views y ≡ some (caller_view k d)) (sym e) (set_at s.views id (caller_view k c) (caller_view k d) at), refl, spare ∙ (ap (λ (y : Calling). y.spare) (sym (caller-injective x.1 c role)) ∙ x.4))
       go (no n) = (x.0, x.1, set_else s.views id j (caller_view k d) n ∙ x.2, x.3, x.4)
 
-  seat_keeps : (h : List Entry) → IsLegal (slot_count k) opening_machine h → AllMayCall k.filers h → after_all opening_machine h ≡ m → ticks (calls h) ≡ ticks (calls rule.history)
+  seat_keeps : (h : List Entry) → IsLegal (slot_count k) opening_machine h → AllMayCall k.filers h → after_all opening_machine h ≡ m → moves (calls h) ≡ moves (calls rule.history)
       → ((who : ℕ) (b : Berth) → get_elem? s.berths who ≡ some b → CallerStands t.views who (calls_of who h) b)
       → ((j : ℕ) (v : View) → j ≢ id → get_elem? s.views j ≡ some v → RoleFits t (slot_count k) m h k.filers v.role)
       → RoleFits t (slot_count k) m h k.filers (Caller d) → RingRule k t
@@ -114,7 +114,7 @@ module _ (k : Shape) (s : Ring) (rule : RingRule k s) (id : ℕ) (c d : Calling)
           go (no n) = stands_kept s.views id (caller_view k c) (caller_view k d) at x (calls_of x rule.history) b (same_callers x c d who n) (rule.caller x b e)
 
   -- with an entry that leaves the machine as it is
-  pub reply_keeps : (call : Call) → d.list ≡ c.list ++ call ∷ [] → MayCall k.filers c.who call → Replies (slot_count k) m call → after m call ≡ m → tick_weight call ≡ 0
+  pub reply_keeps : (call : Call) → d.list ≡ c.list ++ call ∷ [] → MayCall k.filers c.who call → Replies (slot_count k) m call → after m call ≡ m → move_weight call ≡ 0
       → KnownFits s.source s.base m (rule.history ++ entry c.who call ∷ []) d.known → FlightFits (slot_count k) s.slots d.flight → RingRule k t
   reply_keeps call list may reply stays light known flight =
       let e : Entry = entry c.who call in
@@ -124,8 +124,8 @@ module _ (k : Shape) (s : Ring) (rule : RingRule k s) (id : ℕ) (c d : Calling)
       (after_all-snoc opening_machine rule.history e ∙ stays) counted (callers_after k s.views s.berths id c d call rule.history at who list rule.caller)
       (λ j v _ a. role_longer s t (slot_count k) m rule.history e k.filers v.role refl refl refl (rule.role j v a)) (low, known, flight)
     where
-      counted : ticks (calls (rule.history ++ entry c.who call ∷ [])) ≡ ticks (calls rule.history)
-      counted = let a = ap ticks (calls-snoc rule.history (entry c.who call)) in let b = ticks-snoc (calls rule.history) call in omega arith
+      counted : moves (calls (rule.history ++ entry c.who call ∷ [])) ≡ moves (calls rule.history)
+      counted = let a = ap moves (calls-snoc rule.history (entry c.who call)) in let b = moves-snoc (calls rule.history) call in omega arith
 
 module _ (k : Shape) (s : Ring) (rule : RingRule k s) (id : ℕ) (c : Calling) (w : SlotWord) (n : ℕ) (f : List ℕ)
     (at : get_elem? s.views id ≡ some (caller_view k c)) (filer : c.who < k.filers) (found : get_elem? s.slots (n % slot_count k) ≡ some w) where

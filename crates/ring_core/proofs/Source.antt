@@ -12,10 +12,10 @@ use Rattle.ring_core.specs.declared.views.Role.{Role}
 use Rattle.ring_core.specs.declared.views.Role.TheVariants.{Pool, Caller, Departed, Note, Spent}
 use Rattle.ring_core.specs.declared.views.View.{View}
 use Rattle.playout.specs.Machine.{start, Machine, opening_machine, held_or, after}
-use Rattle.playout.specs.History.{Entry, entry, after_all, calls, ticks}
+use Rattle.playout.specs.History.{Entry, entry, after_all, calls, moves}
 use Rattle.ring_core.specs.Ring.{Ring, slot_count, word_of, Place, in_slot, in_berth, with_seat, Names, SlotFits, KnownFits, RoleFits, RingRule}
 use Rattle.ring_core.specs.Steps.{caller_view, view_at, sourced, source_at}
-use Rattle.playout.specs.LongerHistory.{after_all-snoc, legal-snoc, callers-snoc, ticks-snoc, calls-snoc, all_accepted-longer}
+use Rattle.playout.specs.LongerHistory.{after_all-snoc, legal-snoc, callers-snoc, moves-snoc, calls-snoc, all_accepted-longer}
 use Rattle.ring_core.proofs.Seats.{known_kept}
 use Rattle.ring_core.proofs.Kept.{callers_after}
 use Rattle.ring_core.proofs.Replied.{names_before, names_after, reply_keeps}
@@ -91,8 +91,8 @@ module _ (k : Shape) (s : Ring) (rule : RingRule k s) (id : ℕ) (c : Calling) (
         let f = rule.role id (caller_view k c) at in
         (f.0, record { pairs = all_accepted-longer c.known.pairs rule.history e f.1.pairs; position = f.1.position; source = λ y z. ap word_of z; base = f.1.base }, f.2)
 
-    counted : ticks (calls h) ≡ ticks (calls rule.history)
-    counted = let a = ap ticks (calls-snoc rule.history e) in let b = ticks-snoc (calls rule.history) call in omega arith
+    counted : moves (calls h) ≡ moves (calls rule.history)
+    counted = let a = ap moves (calls-snoc rule.history e) in let b = moves-snoc (calls rule.history) call in omega arith
 
     pub source_keeps : RingRule k t
     source_keeps =

@@ -1,10 +1,14 @@
 -- The core: events on the ring as plain data. An event that its seat's view does not allow changes nothing.
-use Rattle.std.specs.Prelude.{◌<◌, ◌^◌, ℕ, ◌-◌, ◌%◌, ◌==◌, ◌&&◌, nat_lt, List, [], ◌∷◌, Option, Some, None, Bool, true, false, if◌then◌else◌, slice_get}
+use Rattle.std.specs.Prelude.{◌<◌, ◌^◌, ℕ, ◌+◌, ◌-◌, ◌%◌, ◌==◌, ◌&&◌, nat_lt, List, [], ◌∷◌, Option, Some, None, Bool, true, false, if◌then◌else◌, slice_get}
 use mathlib.Core.Option as maybe
 use lib.ListN.{get_elem?}
 use Rattle.playout.specs.declared.call.Call.{Call}
 use Rattle.ring_core.specs.declared.event.CoreEvent.{CoreEvent}
-use Rattle.ring_core.specs.declared.event.CoreEvent.TheVariants.{Enlist, Load, Publish, Tick, Leave, Split, Learn, Gather, Source, Base, Peek}
+use Rattle.ring_core.specs.declared.event.CoreEvent.TheVariants.{Enlist, Load, Publish, Tick, Leave, Split, Learn, Gather, Source, Base, Peek, Look, Retire, Hold}
+use Rattle.ring_core.specs.declared.player_steps.Move.{Move}
+use Rattle.ring_core.specs.declared.player_steps.Move.TheVariants.{Played, Retired}
+use Rattle.ring_core.specs.declared.player_steps.Glance.{Glance}
+use Rattle.ring_core.specs.declared.player_steps.Glance.TheVariants.{Ahead, Here}
 use Rattle.ring_core.specs.declared.views.Shape.{Shape}
 use Rattle.ring_core.specs.declared.views.Calling.{Calling}
 use Rattle.ring_core.specs.declared.views.Pooling.{Pooling}
@@ -18,7 +22,7 @@ use Rattle.ring_core.specs.declared.words.Berth.TheVariants.{Fresh}
 use Rattle.ring_core.specs.declared.words.Cell.{Cell}
 use Rattle.ring_core.specs.declared.words.Cell.TheVariants.{AtHome}
 use Rattle.ring_core.specs.Ring.{Ring, slot_count}
-use Rattle.ring_core.specs.Steps.{position_of, tick_at, loaded, view_at, publish_at, split_at, note_at, enlist_at, leave_at, learn_at, gather_at, source_at, sourced, base_at, based, peeked}
+use Rattle.ring_core.specs.Steps.{position_of, move_at, ahead_of, glanced, loaded, view_at, publish_at, split_at, note_at, enlist_at, leave_at, learn_at, gather_at, source_at, sourced, base_at, based, peeked}
 
 -- what a cell at home holds
 abbrev pub kept_in : maybe.Option Cell → Option (List ℕ)
@@ -52,14 +56,25 @@ is_player k c = c.who == k.filers
 abbrev pub is_filer : Shape → Calling → Bool
 is_filer k c = nat_lt c.who k.filers && on_ground c.flight
 
-abbrev pub tick_word : Shape → Ring → ℕ → Calling → maybe.Option SlotWord → Ring
-tick_word k s seat c maybe.none = s
-tick_word k s seat c (maybe.some w) = tick_at k s seat c w (kept_in (get_elem? s.cells w.cell)) None
+abbrev pub move_word : Shape → Ring → ℕ → Calling → Move → maybe.Option SlotWord → Ring
+move_word k s seat c v maybe.none = s
+move_word k s seat c v (maybe.some w) = move_at k s seat c v w (kept_in (get_elem? s.cells w.cell)) None
 
-abbrev pub tick_role : Shape → Ring → ℕ → Role → Ring
-tick_role k s seat (Caller c) =
-    if is_player k c && nat_lt (position_of c) 8589934592 then tick_word k s seat c (get_elem? s.slots (position_of c % slot_count k)) else s
-tick_role k s seat _ = s
+-- tick and retire: only the player, below the last number
+abbrev pub move_role : Shape → Ring → ℕ → Move → Role → Ring
+move_role k s seat v (Caller c) =
+    if is_player k c && nat_lt (position_of c) 8589934592 then move_word k s seat c v (get_elem? s.slots (position_of c % slot_count k)) else s
+move_role k s seat v _ = s
+
+abbrev pub glance_word : Shape → Ring → ℕ → Calling → Glance → maybe.Option SlotWord → Ring
+glance_word k s seat c v maybe.none = s
+glance_word k s seat c v (maybe.some w) = view_at k s seat (glanced c v w)
+
+-- look and hold: only the player, within its window
+abbrev pub glance_role : Shape → Ring → ℕ → Glance → Role → Ring
+glance_role k s seat v (Caller c) =
+    if is_player k c && nat_lt (ahead_of v) (slot_count k) then glance_word k s seat c v (get_elem? s.slots ((position_of c + ahead_of v) % slot_count k)) else s
+glance_role k s seat v _ = s
 
 abbrev pub load_word : Shape → Ring → ℕ → Calling → ℕ → List ℕ → maybe.Option SlotWord → Ring
 load_word k s seat c n f maybe.none = s
@@ -141,7 +156,7 @@ abbrev pub happens : Shape → Ring → CoreEvent → Ring
 happens k s (Enlist seat berth) = enlist_role k s seat berth (role_at s seat)
 happens k s (Load seat number frame) = load_role k s seat number frame (role_at s seat)
 happens k s (Publish seat) = publish_role k s seat (role_at s seat)
-happens k s (Tick seat) = tick_role k s seat (role_at s seat)
+happens k s (Tick seat) = move_role k s seat Played (role_at s seat)
 happens k s (Leave seat) = leave_role k s seat (role_at s seat)
 happens k s (Split seat right) = split_role k s seat right (role_at s seat)
 happens k s (Learn seat note) = learn_roles k s seat note (role_at s seat) (role_at s note)
@@ -149,6 +164,9 @@ happens k s (Gather seat other) = gather_roles k s seat other (role_at s seat) (
 happens k s (Source seat ssrc) = source_role k s seat ssrc (role_at s seat)
 happens k s (Base seat ts) = base_role k s seat ts (role_at s seat)
 happens k s (Peek seat) = peek_role k s seat (role_at s seat)
+happens k s (Look seat ahead) = glance_role k s seat (Ahead ahead) (role_at s seat)
+happens k s (Retire seat) = move_role k s seat Retired (role_at s seat)
+happens k s (Hold seat) = glance_role k s seat Here (role_at s seat)
 
 -- the state after all events
 abbrev pub run : Shape → Ring → List CoreEvent → Ring

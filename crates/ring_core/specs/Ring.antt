@@ -17,7 +17,7 @@ use Rattle.ring_core.specs.declared.views.Role.{Role}
 use Rattle.ring_core.specs.declared.views.Role.TheVariants.{Pool, Caller, Departed, Note, Spent}
 use Rattle.ring_core.specs.declared.views.View.{View}
 use Rattle.playout.specs.Machine.{start, Machine, opening_machine}
-use Rattle.playout.specs.History.{Entry, IsLegal, after_all, calls_of, calls, ticks, AllMayCall}
+use Rattle.playout.specs.History.{Entry, IsLegal, after_all, calls_of, calls, moves, AllMayCall}
 use Rattle.playout.specs.Plays.{AllAccepted}
 
 pub record Ring : Type 0 where
@@ -146,7 +146,7 @@ pub record RingRule (k : Shape) (s : Ring) : Type 0 where
   pub named : (c : ℕ) (x : Cell) → get_elem? s.cells c ≡ some x → Names s (place c) c × StandsIn (place c) x
   pub alone : (p : Place) (c : ℕ) → Names s p c → (place c ≡ p) × (c < length s.cells)
   pub caller : (who : ℕ) (b : Berth) → get_elem? s.berths who ≡ some b → CallerStands s.views who (calls_of who history) b
-  pub position : (after_all opening_machine history).position ≡ start + ticks (calls history)
+  pub position : (after_all opening_machine history).position ≡ start + moves (calls history)
   pub bound : (after_all opening_machine history).position ≤ 2 ^ 33
   pub role : (j : ℕ) (v : View) → get_elem? s.views j ≡ some v → RoleFits s (slot_count k) (after_all opening_machine history) history k.filers v.role
   pub source : s.source ≡ word_of (after_all opening_machine history).source

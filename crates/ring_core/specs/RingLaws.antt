@@ -7,6 +7,8 @@ use Rattle.playout.specs.declared.call.Call.{Call}
 use Rattle.ring_core.specs.declared.words.SlotWord.{SlotWord}
 use Rattle.ring_core.specs.declared.words.Berth.TheVariants.{Fresh}
 use Rattle.ring_core.specs.declared.words.Cell.TheVariants.{AtHome}
+use Rattle.ring_core.specs.declared.player_steps.Move.{Move}
+use Rattle.ring_core.specs.declared.player_steps.Glance.{Glance}
 use Rattle.ring_core.specs.declared.views.Shape.{Shape}
 use Rattle.ring_core.specs.declared.views.Known.{Known}
 use Rattle.ring_core.specs.declared.views.Flight.{Flight}
@@ -18,7 +20,7 @@ use Rattle.ring_core.specs.declared.event.CoreEvent.{CoreEvent}
 use Rattle.playout.specs.Machine.{start}
 use Rattle.playout.specs.History.{calls_of}
 use Rattle.ring_core.specs.Ring.{Ring, RingRule, Has, slot_count, word_of}
-use Rattle.ring_core.specs.Steps.{caller_view, pool_view, note_view, gone_view, position_of, taken, free_word, tick_at, loaded, view_at, publish_at, split_at, note_at, enlist_at, leave_at, learn_at, gather_at, sourced, source_at, based, base_at, peeked}
+use Rattle.ring_core.specs.Steps.{caller_view, pool_view, note_view, gone_view, position_of, taken, free_word, move_at, ahead_of, glanced, loaded, view_at, publish_at, split_at, note_at, enlist_at, leave_at, learn_at, gather_at, sourced, source_at, based, base_at, peeked}
 use Rattle.ring_core.specs.Opening.{opening_ring}
 use Rattle.ring_core.specs.Core.{held_in, run}
 use Rattle.ring_core.specs.CoreState.{IsListOf}
@@ -30,15 +32,26 @@ OpeningMeetsTheRule = (k : Shape) → 1 ≤ k.filers → k.filers ≤ 64 → k.g
 abbrev pub Seated : Ring → ℕ → View → Type 0
 Seated s seat v = get_elem? s.views seat ≡ some v
 
+-- the seat is the player's
+abbrev pub IsPlayer : Shape → Ring → ℕ → Calling → Type 0
+IsPlayer k s seat c = Seated s seat (caller_view k c) × (c.who ≡ k.filers)
+
+-- the slot of this number has this word
+abbrev pub HasWord : Shape → Ring → ℕ → SlotWord → Type 0
+HasWord k s number w = get_elem? s.slots (number % slot_count k) ≡ some w
+
 -- each kind of atomic step, where its seat's view allows it, leads from a ring that meets the rule to one that meets it
 pub record StepsKeepTheRule (k : Shape) (s : Ring) : Type 0 where
   pub enlist : (seat who cell : ℕ) (p : Pooling) → Seated s seat (pool_view k p) → slice_get p.rights who ≡ Some true → ((n : ℕ) (l : List Call) → slice_get p.lists n ≡ Some (Some l) → ⊥)
       → get_elem? s.berths who ≡ some (Fresh cell) → RingRule k (enlist_at k s seat who cell)
-  pub load : (seat number : ℕ) (c : Calling) (w : SlotWord) (f : List ℕ) → Seated s seat (caller_view k c) → c.who < k.filers → get_elem? s.slots (number % slot_count k) ≡ some w → RingRule k (view_at k s seat (loaded c w number f))
-  pub publish : (seat : ℕ) (c : Calling) (f : Flight) (held : Option (List ℕ)) → Seated s seat (caller_view k c) → c.who < k.filers → get_elem? s.slots (f.number % slot_count k) ≡ some (free_word f.number f.cell)
+  pub load : (seat number : ℕ) (c : Calling) (w : SlotWord) (f : List ℕ) → Seated s seat (caller_view k c) → c.who < k.filers → HasWord k s number w
+      → RingRule k (view_at k s seat (loaded c w number f))
+  pub publish : (seat : ℕ) (c : Calling) (f : Flight) (held : Option (List ℕ)) → Seated s seat (caller_view k c) → c.who < k.filers → HasWord k s f.number (free_word f.number f.cell)
       → get_elem? s.cells f.cell ≡ some (AtHome held) → RingRule k (publish_at k s seat c f)
-  pub tick : (seat : ℕ) (c : Calling) (w : SlotWord) (held own : Option (List ℕ)) → Seated s seat (caller_view k c) → c.who ≡ k.filers → position_of c < 2 ^ 33 → get_elem? s.slots (position_of c % slot_count k) ≡ some w
-      → get_elem? s.cells w.cell ≡ some (AtHome held) → RingRule k (tick_at k s seat c w held own)
+  pub move : (v : Move) (seat : ℕ) (c : Calling) (w : SlotWord) (held own : Option (List ℕ)) → IsPlayer k s seat c → position_of c < 2 ^ 33 → HasWord k s (position_of c) w
+      → get_elem? s.cells w.cell ≡ some (AtHome held) → RingRule k (move_at k s seat c v w held own)
+  pub glance : (v : Glance) (seat : ℕ) (c : Calling) (w : SlotWord) → IsPlayer k s seat c → ahead_of v < slot_count k → HasWord k s (position_of c + ahead_of v) w
+      → RingRule k (view_at k s seat (glanced c v w))
   pub leave : (seat : ℕ) (c : Calling) (own : Option (List ℕ)) → Seated s seat (caller_view k c) → RingRule k (leave_at k s seat c own)
   pub split : (seat who : ℕ) (p : Pooling) → Seated s seat (pool_view k p) → slice_get p.rights who ≡ Some true → RingRule k (split_at k s seat p who)
   pub note : (seat : ℕ) (c : Calling) → Seated s seat (caller_view k c) → RingRule k (note_at k s c)
@@ -63,13 +76,15 @@ IsThere s w n f = (w.number ≡ n) × (w.filled ≡ true) × (get_elem? s.cells 
 
 -- what a caller knows shows in the words that it reads
 pub record KnownIsFresh (k : Shape) (s : Ring) (seat : ℕ) (c : Calling) : Type 0 where
-  -- the player is played the frame that it knows to be accepted
-  pub played : (w : SlotWord) (held : Option (List ℕ)) (f : List ℕ) → c.who ≡ k.filers → position_of c < 2 ^ 33 → get_elem? s.slots (position_of c % slot_count k) ≡ some w → get_elem? s.cells w.cell ≡ some (AtHome held)
+  -- the player takes the frame that it knows to be accepted, by a tick or by a retire
+  pub played : (w : SlotWord) (held : Option (List ℕ)) (f : List ℕ) → c.who ≡ k.filers → position_of c < 2 ^ 33 → HasWord k s (position_of c) w → get_elem? s.cells w.cell ≡ some (AtHome held)
       → Has c.known.pairs (position_of c) f → taken w.filled held ≡ Frame f
+  -- and finds its slot filled, by a look or by a hold
+  pub found : (a : ℕ) (w : SlotWord) (f : List ℕ) → c.who ≡ k.filers → a < slot_count k → HasWord k s (position_of c + a) w → Has c.known.pairs (position_of c + a) f → w.filled ≡ true
   -- each slot has reached the positions that it knows
   pub reached : (i : ℕ) (w : SlotWord) → get_elem? s.slots i ≡ some w → c.known.position ≤ w.number
   -- the slot of a number that it knows to be accepted has that frame under it, or has gone on
-  pub accepted : (n : ℕ) (w : SlotWord) (f : List ℕ) → get_elem? s.slots (n % slot_count k) ≡ some w → Has c.known.pairs n f → IsThere s w n f ⊎ (n < w.number)
+  pub accepted : (n : ℕ) (w : SlotWord) (f : List ℕ) → HasWord k s n w → Has c.known.pairs n f → IsThere s w n f ⊎ (n < w.number)
   pub source : (x : ℕ) → c.known.source ≡ Some x → s.source ≡ word_of (Some x)
   pub base : (x : ℕ) → c.known.base ≡ Some x → s.base ≡ word_of (Some x)
 

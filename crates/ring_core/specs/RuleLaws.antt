@@ -1,14 +1,15 @@
 -- What the ring's rule says of one slot, one berth and one seat.
-use Rattle.std.proofs.Common.{◌≡◌, ◌≢◌, ℕ, ◌+◌, ◌%◌, ◌<◌, ◌≤◌, List, length, Some, true, refl, sym, ap, ◌∙◌, arith}
+use Rattle.std.proofs.Common.{◌≡◌, ◌≢◌, inl, inr, ℕ, ◌+◌, ◌%◌, ◌<◌, ◌≤◌, List, length, Some, true, refl, sym, ap, ◌∙◌, arith}
 use Rattle.std.specs.Prelude.{slice_get}
 use Rattle.std.proofs.lemmas.Nat.{pow_pos}
+use Rattle.std.proofs.lemmas.Bool.{cases_lt}
 use mathlib.Core.Option.{some}
 use lib.ListN.{get_elem?}
 use Rattle.playout.specs.declared.call.Call.{Call}
 use Rattle.playout.specs.Machine.{start, opening_machine}
-use Rattle.playout.specs.History.{after_all, calls_of, ticks}
-use Rattle.playout.specs.LongerHistory.{player_ticks}
-use Rattle.playout.specs.Turns.{one_turn}
+use Rattle.playout.specs.History.{after_all, calls_of, moves}
+use Rattle.playout.specs.LongerHistory.{player_moves}
+use Rattle.playout.specs.Turns.{turn_apart}
 use Rattle.ring_core.specs.declared.words.SlotWord.{SlotWord}
 use Rattle.ring_core.specs.declared.words.Berth.{Berth}
 use Rattle.ring_core.specs.declared.words.Berth.TheVariants.{Fresh, Out, Home}
@@ -18,6 +19,7 @@ use Rattle.ring_core.specs.declared.views.Calling.{Calling}
 use Rattle.ring_core.specs.Ring.{Ring, slot_count, Place, in_slot, in_berth, with_seat, CallerStands, RingRule}
 use Rattle.ring_core.specs.Steps.{pool_view, caller_view, position_of}
 use Rattle.ring_core.specs.ListPlaces.{at_exists}
+use Rattle.ring_core.specs.RingLaws.{Seated, HasWord}
 
 -- there is a slot
 pub slots_positive : (k : Shape) → 0 < slot_count k
@@ -59,16 +61,33 @@ list_is k s rule id c at = mine (rule.caller c.who Out (caller_is_out k s rule i
 -- the position that the player counts is the machine's
 pub player_position : (k : Shape) (s : Ring) (rule : RingRule k s) (id : ℕ) (c : Calling) → get_elem? s.views id ≡ some (caller_view k c) → c.who ≡ k.filers → position_of c ≡ (after_all opening_machine rule.history).position
 player_position k s rule id c at player =
-    ap (λ (l : List Call). start + ticks l) (list_is k s rule id c at ∙ ap (λ (q : ℕ). calls_of q rule.history) player) ∙ (ap (λ (q : ℕ). start + q) (player_ticks k.filers rule.history rule.callers) ∙ sym rule.position)
+    ap (λ (l : List Call). start + moves l) (list_is k s rule id c at ∙ ap (λ (q : ℕ). calls_of q rule.history) player) ∙ (ap (λ (q : ℕ). start + q) (player_moves k.filers rule.history rule.callers) ∙ sym rule.position)
 
--- and its slot has it as the number
-pub tick_number : (k : Shape) (s : Ring) (rule : RingRule k s) (id : ℕ) (c : Calling) (w : SlotWord) → get_elem? s.views id ≡ some (caller_view k c) → c.who ≡ k.filers → get_elem? s.slots (position_of c % slot_count k) ≡ some w → w.number ≡ position_of c
+-- two numbers of one slot in one window are one
+pub one_in_window : (p r a b : ℕ) → p ≤ a → a < p + r → p ≤ b → b < p + r → a % r ≡ b % r → a ≡ b
+one_in_window p r a b la ha lb hb e = elim (cases_lt a b) [
+  | inl lt ↦ absurd (omega (arith, turn_apart a b r lt e, la, hb))
+  | inr ge ↦ elim (cases_lt b a) [
+    | inl lt ↦ absurd (omega (arith, turn_apart b a r lt (sym e), lb, ha))
+    | inr le ↦ omega (arith, ge, le)
+  ]
+]
+
+-- the slot of a number of its window has it as the number
+pub number_ahead : (k : Shape) (s : Ring) (rule : RingRule k s) (id : ℕ) (c : Calling) (a : ℕ) (w : SlotWord) → Seated s id (caller_view k c) → c.who ≡ k.filers → a < slot_count k → HasWord k s (position_of c + a) w
+    → w.number ≡ position_of c + a
+number_ahead k s rule id c a w at player low found =
+    let R : ℕ = slot_count k in let n : ℕ = position_of c + a in
+    let fits = rule.slot (n % R) w found in
+    let b : ℕ = w.number in let q : ℕ = (after_all opening_machine rule.history).position in
+    let lo : q ≤ b = fits.reached in let hi : b < q + R = fits.near in let e : position_of c ≡ q = player_position k s rule id c at player in
+    one_in_window q R b n lo hi (omega arith) (omega arith) fits.congruent
+
+-- so does that of its position
+pub tick_number : (k : Shape) (s : Ring) (rule : RingRule k s) (id : ℕ) (c : Calling) (w : SlotWord) → Seated s id (caller_view k c) → c.who ≡ k.filers → HasWord k s (position_of c) w → w.number ≡ position_of c
 tick_number k s rule id c w at player found =
-    let R : ℕ = slot_count k in let p : ℕ = position_of c in
-    let fits = rule.slot (p % R) w found in
-    let a : ℕ = w.number in let q : ℕ = (after_all opening_machine rule.history).position in
-    let lo : q ≤ a = fits.reached in let hi : a < q + R = fits.near in let e : p ≡ q = player_position k s rule id c at player in
-    sym (one_turn p a R (omega arith) (omega arith) (sym fits.congruent))
+    let none : position_of c + 0 ≡ position_of c = omega arith in
+    number_ahead k s rule id c 0 w at player (slots_positive k) (ap (λ (n : ℕ). get_elem? s.slots (n % slot_count k)) none ∙ found) ∙ none
 
 slot_seat : (i j : ℕ) → Path Place (in_slot i) (with_seat j) → ⊥
 slot_seat i j e = cc

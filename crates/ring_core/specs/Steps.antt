@@ -1,11 +1,15 @@
 -- What each atomic step does to the ring.
-use Rattle.std.specs.Prelude.{ℕ, ◌+◌, ◌%◌, List, [], ◌∷◌, ◌++◌, Option, Some, None, Bool, true, false, slice_set, max, ◌==◌, nat_lt, if◌then◌else◌, replicate}
+use Rattle.std.specs.Prelude.{ℕ, ◌+◌, ◌%◌, List, [], ◌∷◌, ◌++◌, Option, Some, None, Bool, true, false, not, slice_set, max, ◌==◌, nat_lt, if◌then◌else◌, replicate}
 use Rattle.frame_codec.specs.declared.item.Item.{Item}
 use Rattle.frame_codec.specs.declared.item.Item.TheVariants.{Frame, Erasure}
 use Rattle.playout.specs.declared.reply.FileReply.{FileReply}
 use Rattle.playout.specs.declared.reply.FileReply.TheVariants.{Accepted, Duplicate, Late, Beyond}
 use Rattle.playout.specs.declared.call.Call.{Call}
-use Rattle.playout.specs.declared.call.Call.TheVariants.{FileCall, SourceCall, BaseCall, PeekCall, TickCall}
+use Rattle.playout.specs.declared.call.Call.TheVariants.{FileCall, SourceCall, BaseCall, PeekCall, TickCall, LookCall, HoldCall, RetireCall}
+use Rattle.ring_core.specs.declared.player_steps.Move.{Move}
+use Rattle.ring_core.specs.declared.player_steps.Move.TheVariants.{Played, Retired}
+use Rattle.ring_core.specs.declared.player_steps.Glance.{Glance}
+use Rattle.ring_core.specs.declared.player_steps.Glance.TheVariants.{Ahead, Here}
 use Rattle.ring_core.specs.declared.views.Shape.{Shape}
 use Rattle.ring_core.specs.declared.views.Known.{Known}
 use Rattle.ring_core.specs.declared.views.Flight.{Flight}
@@ -15,7 +19,7 @@ use Rattle.ring_core.specs.declared.views.Departing.{Departing}
 use Rattle.ring_core.specs.declared.views.Role.TheVariants.{Pool, Caller, Departed, Note, Spent}
 use Rattle.ring_core.specs.declared.views.View.{View}
 use Rattle.playout.specs.Machine.{start}
-use Rattle.playout.specs.History.{ticks}
+use Rattle.playout.specs.History.{moves}
 use Rattle.ring_core.specs.declared.words.SlotWord.{SlotWord}
 use Rattle.ring_core.specs.declared.words.Berth.TheVariants.{Out, Home}
 use Rattle.ring_core.specs.declared.words.Cell.TheVariants.{AtHome, OutWith}
@@ -33,19 +37,24 @@ at_position k p = record k { position = p }
 abbrev pub with_pair : Known → ℕ → List ℕ → Known
 with_pair k n f = record k { pairs = (n, f) ∷ k.pairs }
 
--- a player's position
+-- a player's position: the number that its next tick or retire takes
 abbrev pub position_of : Calling → ℕ
-position_of c = start + ticks c.list
+position_of c = start + moves c.list
 
--- what a tick takes out of a slot: the word's frame, or none
+-- what a tick or a retire takes out of a slot: the word's frame, or none
 abbrev pub taken : Bool → Option (List ℕ) → Item
 taken true (Some f) = Frame f
 taken true None = Erasure
 taken false x = Erasure
 
--- tick: the player's caller afterwards, where the word read names this cell, which had y
-abbrev pub ticked : Calling → SlotWord → Option (List ℕ) → Calling
-ticked c w y = record c { list = c.list ++ TickCall (taken w.filled y) ∷ []; spare = w.cell; known = at_position c.known (position_of c + 1) }
+-- a tick's call or a retire's, with what it took
+abbrev pub move_call : Move → Item → Call
+move_call Played item = TickCall item
+move_call Retired item = RetireCall item
+
+-- tick and retire: the player's caller afterwards, where the word read names this cell, which had y
+abbrev pub moved : Calling → Move → SlotWord → Option (List ℕ) → Calling
+moved c v w y = record c { list = c.list ++ move_call v (taken w.filled y) ∷ []; spare = w.cell; known = at_position c.known (position_of c + 1) }
 
 abbrev pub free_word : ℕ → ℕ → SlotWord
 free_word number cell = record { number = number; filled = false; cell = cell }
@@ -53,14 +62,28 @@ free_word number cell = record { number = number; filled = false; cell = cell }
 abbrev pub full_word : ℕ → ℕ → SlotWord
 full_word number cell = record { number = number; filled = true; cell = cell }
 
--- tick by this seat: the spare, in which z lies, goes into the slot
-abbrev pub tick_at : Shape → Ring → ℕ → Calling → SlotWord → Option (List ℕ) → Option (List ℕ) → Ring
-tick_at k s seat c w y z =
+-- tick or retire by this seat: the spare, in which z lies, goes into the slot
+abbrev pub move_at : Shape → Ring → ℕ → Calling → Move → SlotWord → Option (List ℕ) → Option (List ℕ) → Ring
+move_at k s seat c v w y z =
     record s {
       slots = slice_set s.slots (position_of c % slot_count k) (free_word (position_of c + slot_count k) c.spare);
       cells = slice_set (slice_set s.cells c.spare (AtHome z)) w.cell (OutWith seat);
-      views = slice_set s.views seat (caller_view k (ticked c w y));
+      views = slice_set s.views seat (caller_view k (moved c v w y));
     }
+
+-- how many numbers ahead of the player's the slot of a look or a hold is
+abbrev pub ahead_of : Glance → ℕ
+ahead_of (Ahead ahead) = ahead
+ahead_of Here = 0
+
+-- a look's call or a hold's, where the word read is filled or free
+abbrev pub glance_call : Glance → Bool → Call
+glance_call (Ahead ahead) filled = LookCall ahead filled
+glance_call Here filled = HoldCall (not filled)
+
+-- look and hold: the player's caller afterwards. Nothing changes but its list
+abbrev pub glanced : Calling → Glance → SlotWord → Calling
+glanced c v w = with_call c (glance_call v w.filled)
 
 -- load: what is found says which reply is given, or that the filer is in flight
 abbrev pub in_flight : Calling → ℕ → ℕ → List ℕ → Calling

@@ -1,9 +1,12 @@
 // What a caller is after each of its steps.
-ghost use Rattle.std.specs.Prelude.{◌≡◌, ◌+◌, ◌<◌, ◌^◌, ◌&&◌, IfOk, nat_lt};
+ghost use Rattle.std.specs.Prelude.{◌≡◌, ◌+◌, ◌<◌, ◌≤◌, ◌^◌, ◌&&◌, IfOk, nat_lt};
+ghost use Rattle.ring_core.specs.Ring.{slot_count};
 ghost use Rattle.ring_core.specs.Core.{is_filer, is_player};
-ghost use Rattle.ring_core.specs.Steps.{based, late, loaded, merged, newcomer, peeked, position_of, published, replied, sourced, taken, ticked, told_by, with_pair};
+ghost use Rattle.ring_core.specs.Steps.{based, glanced, late, loaded, merged, moved, newcomer, peeked, position_of, published, replied, sourced, taken, told_by, with_pair};
 
+use crate::core_steps::slots_in;
 use crate::lists::{CallList, PairList};
+use crate::player_steps::{Glance, Move};
 use crate::views::{Calling, Flight, Known, Shape};
 use crate::words::SlotWord;
 use frame_codec::{Frame33, Item};
@@ -11,13 +14,13 @@ use gate_base::OutOfMemory;
 use playout::{Call, FileReply};
 use std::alloc::Global;
 
-/// The number of the first tick.
+/// The number that the first tick or retire takes.
 const START: u64 = 1 << 32;
 
-/// The number at which there are no more ticks.
+/// The number at which there are no more ticks and retires.
 const END: u64 = 1 << 33;
 
-/// What a tick takes out of a slot.
+/// What a tick or a retire takes out of a slot.
 fn taken(filled: bool, held: Option<Frame33>) -> Item
     ensures { result ≡ taken filled held }
 {
@@ -83,18 +86,27 @@ impl Calling {
         }
     }
 
-    /// The number of its next tick.
+    /// The number that its next tick or retire takes.
     pub(crate) fn position(&self) -> u64
-        ensures { result ≡ position_of self.now }
+        ensures value { result ≡ position_of self.now }
+        ensures few { result < 2 ^ 63 + 2 ^ 32 }
     {
-        START + self.list.ticks()
+        START + self.list.moves()
     }
 
-    /// Whether it is the player, with ticks to come.
-    pub(crate) fn may_tick(&self, shape: Shape) -> bool
+    /// Whether it is the player, with ticks and retires to come.
+    pub(crate) fn may_move(&self, shape: Shape) -> bool
         ensures { result ≡ (is_player shape self.now && nat_lt (position_of self.now) 8589934592) }
     {
         self.who == shape.filers && self.position() < END
+    }
+
+    /// Whether it is the player, and so many numbers ahead of its own there is one of its window.
+    pub(crate) fn may_look(&self, shape: Shape, ahead: u64) -> bool
+        requires { shape.g ≤ 10 }
+        ensures { result ≡ (is_player shape self.now && nat_lt ahead (slot_count shape)) }
+    {
+        self.who == shape.filers && ahead < slots_in(shape)
     }
 
     /// Whether it is a filer that is not in flight.
@@ -104,26 +116,40 @@ impl Calling {
         self.who < shape.filers && self.flight.is_none()
     }
 
-    /// After a tick that found this word, whose cell held this.
-    pub(crate) fn ticked(
+    /// After a tick or a retire that found this word, whose cell held this.
+    pub(crate) fn moved(
         self,
+        how: Move,
         word: SlotWord,
         held: Option<Frame33>,
     ) -> Result<Calling, OutOfMemory>
         requires { position_of self < 2 ^ 33 }
-        ensures { IfOk result (λ c. c ≡ ticked self word held) }
+        ensures { IfOk result (λ c. c ≡ moved self how word held) }
     {
         let position = self.position();
         let item = taken(word.filled, held);
         Ok(Calling {
             who: self.who,
-            list: self.list.with(Call::TickCall { item })?,
+            list: self.list.with(how.call(item))?,
             spare: word.cell,
             flight: self.flight,
             known: Known {
                 position: position + 1,
                 ..self.known
             },
+        })
+    }
+
+    /// After a look or a hold that found this word.
+    pub(crate) fn glanced(self, glance: Glance, word: SlotWord) -> Result<Calling, OutOfMemory>
+        ensures { IfOk result (λ c. c ≡ glanced self glance word) }
+    {
+        Ok(Calling {
+            who: self.who,
+            list: self.list.with(glance.call(word.filled))?,
+            spare: self.spare,
+            flight: self.flight,
+            known: self.known,
         })
     }
 

@@ -1,12 +1,13 @@
 // What each event makes of the ring.
 ghost use Rattle.std.specs.Prelude.{◌≡◌, ◌≤◌, OnOk, slice_index_or, slice_set};
 ghost use Rattle.ring_core.specs.Steps.{spent_view};
-ghost use Rattle.ring_core.specs.Core.{base_role, enlist_role, gather_roles, happens, learn_roles, leave_role, load_role, peek_role, publish_role, role_at, source_role, split_role, tick_role};
+ghost use Rattle.ring_core.specs.Core.{base_role, enlist_role, gather_roles, glance_role, happens, learn_roles, leave_role, load_role, move_role, peek_role, publish_role, role_at, source_role, split_role};
 
 use crate::core_state::CoreState;
 use crate::core_steps::spent_view;
 use crate::element::put;
 use crate::event::CoreEvent;
+use crate::player_steps::{Glance, Move};
 use crate::views::{Shape, View};
 use crate::{core_steps, pool_steps};
 use frame_codec::Frame33;
@@ -70,12 +71,22 @@ impl CoreState {
         Ok(())
     }
 
-    fn tick(&mut self, shape: Shape, seat: u32) -> Result<(), OutOfMemory>
+    fn go_on(&mut self, shape: Shape, seat: u32, how: Move) -> Result<(), OutOfMemory>
         requires { shape.g ≤ 10 }
-        ensures { OnOk result (self.new ≡ tick_role shape self.old seat (role_at self.old seat)) }
+        ensures { OnOk result (self.new ≡ move_role shape self.old seat how (role_at self.old seat)) }
     {
         let view = take(&mut self.views, seat);
-        let next = core_steps::tick(shape, seat, view, &mut self.slots, &mut self.cells)?;
+        let next = core_steps::go_on(shape, seat, how, view, &mut self.slots, &mut self.cells)?;
+        put(&mut self.views, seat as usize, next);
+        Ok(())
+    }
+
+    fn look(&mut self, shape: Shape, seat: u32, glance: Glance) -> Result<(), OutOfMemory>
+        requires { shape.g ≤ 10 }
+        ensures { OnOk result (self.new ≡ glance_role shape self.old seat glance (role_at self.old seat)) }
+    {
+        let view = take(&mut self.views, seat);
+        let next = core_steps::look(shape, glance, view, &self.slots)?;
         put(&mut self.views, seat as usize, next);
         Ok(())
     }
@@ -185,7 +196,7 @@ impl CoreState {
                 frame,
             } => self.load(shape, seat, number, frame),
             CoreEvent::Publish { seat } => self.publish(shape, seat),
-            CoreEvent::Tick { seat } => self.tick(shape, seat),
+            CoreEvent::Tick { seat } => self.go_on(shape, seat, Move::Played),
             CoreEvent::Leave { seat } => {
                 self.leave(shape, seat);
                 Ok(())
@@ -199,6 +210,9 @@ impl CoreState {
             CoreEvent::Source { seat, ssrc } => self.source(shape, seat, ssrc),
             CoreEvent::Base { seat, ts } => self.base(shape, seat, ts),
             CoreEvent::Peek { seat } => self.peek(shape, seat),
+            CoreEvent::Look { seat, ahead } => self.look(shape, seat, Glance::Ahead(ahead)),
+            CoreEvent::Retire { seat } => self.go_on(shape, seat, Move::Retired),
+            CoreEvent::Hold { seat } => self.look(shape, seat, Glance::Here),
         }
     }
 }

@@ -13,7 +13,7 @@ use playout::Call;
 use std::alloc::Global;
 use std::marker::Model;
 
-/// The number of the first tick.
+/// The number that the first tick or retire takes.
 const START: u64 = 1 << 32;
 
 /// The ring: its slot words, berth words, source and base words, cells, and a view for each seat.

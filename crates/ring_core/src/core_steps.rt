@@ -1,12 +1,13 @@
 // What each atomic step makes of the view of the seat that steps, and of the ring's words and cells.
-ghost use Rattle.std.specs.Prelude.{◌≡◌, ◌≤◌, ◌^◌, ◌≢◌, ℕ, IfOk, slice_set};
+ghost use Rattle.std.specs.Prelude.{◌≡◌, ◌≤◌, ◌^◌, ℕ, IfOk, slice_set};
 ghost use Rattle.ring_core.specs.Ring.{Ring, slot_count, word_of};
-ghost use Rattle.ring_core.specs.Core.{base_role, kept_in, learn_roles, leave_role, load_role, peek_role, publish_role, source_role, tick_role};
+ghost use Rattle.ring_core.specs.Core.{base_role, glance_role, kept_in, learn_roles, leave_role, load_role, move_role, peek_role, publish_role, source_role};
 ghost use Rattle.ring_core.specs.Steps.{caller_view, spent_view};
-ghost use Rattle.ring_core.specs.CoreState.{Sees};
+ghost use Rattle.ring_core.specs.CoreState.{Sees, StepsByReading, StepsOfTwo, StepsOnBase, StepsOnBerths, StepsOnSlots, StepsOnSource};
 ghost use lib.ListN.{get_elem?};
 
 use crate::element::{found, put};
+use crate::player_steps::{Glance, Move};
 use crate::views::{Calling, Departing, Role, Shape, View};
 use crate::words::{Berth, Cell, SlotWord};
 use frame_codec::Frame33;
@@ -53,23 +54,23 @@ pub fn spent_view() -> View
 }
 
 /// The player takes what its slot has, and leaves the slot free for the number that comes there next.
-pub fn tick(
+pub fn go_on(
     shape: Shape,
     seat: u32,
+    how: Move,
     view: View,
     slots: &mut Vec<SlotWord>,
     cells: &mut Vec<Cell>,
 ) -> Result<View, OutOfMemory>
     requires { shape.g ≤ 10 }
-    ensures { IfOk result (λ v. (s : Ring) → s.slots ≡ slots.old.items → s.cells ≡ cells.old.items → Sees s seat view
-        → record s { slots = slots.new.items; cells = cells.new.items; views = slice_set s.views seat v } ≡ tick_role shape s seat view.role) }
+    ensures { IfOk result (λ v. StepsOnSlots seat view v slots.old.items slots.new.items cells.old.items cells.new.items (λ s. move_role shape s seat how)) }
 {
     let View { shape: own, role } = view;
     let caller = match role {
         Role::Caller(caller) => caller,
         role => return Ok(View { shape: own, role }),
     };
-    if !caller.may_tick(shape) {
+    if !caller.may_move(shape) {
         return Ok(caller_view(own, caller));
     }
     let position = caller.position();
@@ -87,7 +88,35 @@ pub fn tick(
     put(slots, place, next);
     put(cells, caller.spare as usize, Cell::AtHome(None));
     put(cells, word.cell as usize, Cell::OutWith(seat));
-    Ok(caller_view(shape, caller.ticked(word, held)?))
+    Ok(caller_view(shape, caller.moved(how, word, held)?))
+}
+
+/// The player looks at a slot of its window.
+pub fn look(
+    shape: Shape,
+    glance: Glance,
+    view: View,
+    slots: &[SlotWord],
+) -> Result<View, OutOfMemory>
+    requires { shape.g ≤ 10 }
+    ensures { IfOk result (λ v. StepsByReading view v slots.now (λ s seat. glance_role shape s seat glance)) }
+{
+    let View { shape: own, role } = view;
+    let caller = match role {
+        Role::Caller(caller) => caller,
+        role => return Ok(View { shape: own, role }),
+    };
+    let ahead = u64::from(glance.ahead());
+    if !caller.may_look(shape, ahead) {
+        return Ok(caller_view(own, caller));
+    }
+    match found(
+        slots,
+        ((caller.position() + ahead) % slots_in(shape)) as usize,
+    ) {
+        Some(word) => Ok(caller_view(shape, caller.glanced(glance, word)?)),
+        None => Ok(caller_view(own, caller)),
+    }
 }
 
 /// A filer looks at the slot of its number.
@@ -99,8 +128,7 @@ pub fn load(
     slots: &[SlotWord],
 ) -> Result<View, OutOfMemory>
     requires { shape.g ≤ 10 }
-    ensures { IfOk result (λ v. (s : Ring) (seat : ℕ) → s.slots ≡ slots.now → Sees s seat view
-        → record s { views = slice_set s.views seat v } ≡ load_role shape s seat number frame view.role) }
+    ensures { IfOk result (λ v. StepsByReading view v slots.now (λ s seat. load_role shape s seat number frame)) }
 {
     let View { shape: own, role } = view;
     let caller = match role {
@@ -125,8 +153,7 @@ pub fn publish(
     cells: &mut Vec<Cell>,
 ) -> Result<View, OutOfMemory>
     requires { shape.g ≤ 10 }
-    ensures { IfOk result (λ v. (s : Ring) → s.slots ≡ slots.old.items → s.cells ≡ cells.old.items → Sees s seat view
-        → record s { slots = slots.new.items; cells = cells.new.items; views = slice_set s.views seat v } ≡ publish_role shape s seat view.role) }
+    ensures { IfOk result (λ v. StepsOnSlots seat view v slots.old.items slots.new.items cells.old.items cells.new.items (λ s. publish_role shape s seat)) }
 {
     let View { shape: own, role } = view;
     let caller = match role {
@@ -167,8 +194,7 @@ pub fn publish(
 
 /// A caller that is not in flight gives its cell back to its berth.
 pub fn leave(shape: Shape, view: View, berths: &mut Vec<Berth>, cells: &mut Vec<Cell>) -> View
-    ensures { (s : Ring) (seat : ℕ) → s.berths ≡ berths.old.items → s.cells ≡ cells.old.items → Sees s seat view
-        → record s { berths = berths.new.items; cells = cells.new.items; views = slice_set s.views seat result } ≡ leave_role shape s seat view.role }
+    ensures { (seat : ℕ) → StepsOnBerths seat view result berths.old.items berths.new.items cells.old.items cells.new.items (λ s. leave_role shape s seat) }
 {
     let View { shape: own, role } = view;
     let caller = match role {
@@ -197,8 +223,7 @@ pub fn source(
     view: View,
     source: &mut Option<u32>,
 ) -> Result<View, OutOfMemory>
-    ensures { IfOk result (λ v. (s : Ring) (seat : ℕ) → s.source ≡ word_of source.old → Sees s seat view
-        → record s { source = word_of source.new; views = slice_set s.views seat v } ≡ source_role shape s seat ssrc view.role) }
+    ensures { IfOk result (λ v. StepsOnSource view v source.old source.new (λ s seat. source_role shape s seat ssrc)) }
 {
     let View { shape: own, role } = view;
     let caller = match role {
@@ -218,8 +243,7 @@ pub fn source(
 
 /// A filer says a base, which is held if none is.
 pub fn base(shape: Shape, ts: u32, view: View, base: &mut Option<u32>) -> Result<View, OutOfMemory>
-    ensures { IfOk result (λ v. (s : Ring) (seat : ℕ) → s.base ≡ word_of base.old → Sees s seat view
-        → record s { base = word_of base.new; views = slice_set s.views seat v } ≡ base_role shape s seat ts view.role) }
+    ensures { IfOk result (λ v. StepsOnBase view v base.old base.new (λ s seat. base_role shape s seat ts)) }
 {
     let View { shape: own, role } = view;
     let caller = match role {
@@ -257,8 +281,7 @@ pub fn peek(shape: Shape, view: View, base: Option<u32>) -> Result<View, OutOfMe
 
 /// A caller that is not in flight takes in a note, which is spent.
 pub fn learn(shape: Shape, view: View, note: View) -> Result<(View, View), OutOfMemory>
-    ensures { IfOk result (λ r. (s : Ring) (seat other : ℕ) → other ≢ seat → Sees s seat view → Sees s other note
-        → record s { views = slice_set (slice_set s.views seat r.0) other r.1 } ≡ learn_roles shape s seat other view.role note.role) }
+    ensures { IfOk result (λ r. StepsOfTwo view note r.0 r.1 (learn_roles shape)) }
 {
     let View { shape: own, role } = view;
     let caller = match role {

@@ -56,4 +56,17 @@ pub enum CoreEvent {
     Peek {
         seat: u32,
     },
+    /// The player looks whether a frame waits so many numbers ahead of its position.
+    Look {
+        seat: u32,
+        ahead: u32,
+    },
+    /// The player takes the item of its position, which is not to be played.
+    Retire {
+        seat: u32,
+    },
+    /// The player looks whether no frame waits at its position, so that a beat may pass there.
+    Hold {
+        seat: u32,
+    },
 }

@@ -8,6 +8,7 @@ mod core_steps;
 mod element;
 mod event;
 mod lists;
+mod player_steps;
 mod pool_steps;
 mod ring_laws;
 mod views;
@@ -17,6 +18,7 @@ pub use core_state::CoreState;
 pub use event::CoreEvent;
 pub use gate_base::OutOfMemory;
 pub use lists::{CallList, Gathered, PairList, Rights};
+pub use player_steps::{Glance, Move};
 pub use ring_laws::{
     callers_are_fresh, gathered_are_the_calls, lists_are_the_calls, opening_meets_the_rule,
     rule_holds, slots_are_near, steps_keep_the_rule,

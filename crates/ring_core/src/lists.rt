@@ -1,7 +1,7 @@
 // Lists that contracts see as lists.
 ghost use Rattle.std.specs.Prelude.{◌≡◌, ◌<◌, ◌≤◌, ◌^◌, [], ◌∷◌, ◌++◌, List, Some, None, IfOk, MatchOption, replicate, slice_get, slice_set};
 ghost use Rattle.playout.specs.declared.call.Call.{Call};
-ghost use Rattle.playout.specs.History.{tick_weight, ticks};
+ghost use Rattle.playout.specs.History.{move_weight, moves};
 ghost use Rattle.ring_core.specs.Core.{has_right, no_lists};
 
 use crate::element::put;
@@ -11,13 +11,14 @@ use playout::Call;
 use std::alloc::Global;
 use std::marker::Model;
 
-// 1 for a tick.
-fn tick_weight(call: &Call) -> u64
-    ensures weight { result ≡ tick_weight call.now }
+// 1 for a tick or a retire.
+fn move_weight(call: &Call) -> u64
+    ensures weight { result ≡ move_weight call.now }
     ensures few { result ≤ 1 }
 {
     match call {
         Call::TickCall { item: _ } => 1,
+        Call::RetireCall { item: _ } => 1,
         _ => 0,
     }
 }
@@ -62,14 +63,14 @@ impl CallList {
         &self.items
     }
 
-    /// How many of the calls are ticks.
-    pub(crate) fn ticks(&self) -> u64
-        ensures count { result ≡ ticks self.now }
+    /// How many of the calls are ticks or retires.
+    pub(crate) fn moves(&self) -> u64
+        ensures count { result ≡ moves self.now }
         ensures few { result < 2 ^ 63 }
     {
         let mut count = 0;
         for call in &self.items {
-            count += tick_weight(call);
+            count += move_weight(call);
         }
         count
     }

@@ -1,10 +1,10 @@
 // What pools do: enlisting a caller, handing on rights, gathering lists.
-ghost use Rattle.std.specs.Prelude.{◌≡◌, ◌≢◌, ◌≤◌, ◌++◌, ℕ, IfOk, None, Some, slice_set};
+ghost use Rattle.std.specs.Prelude.{◌≡◌, ◌≤◌, ◌++◌, ℕ, IfOk, None, Some, slice_set};
 ghost use Rattle.ring_core.specs.Ring.{Ring};
 ghost use Rattle.ring_core.specs.Core.{enlist_role, gather_roles, split_role};
 ghost use Rattle.ring_core.specs.Steps.{only, pool_view};
 ghost use Rattle.ring_core.specs.Opening.{all_rights};
-ghost use Rattle.ring_core.specs.CoreState.{IsFresh, Sees, list_of};
+ghost use Rattle.ring_core.specs.CoreState.{IsFresh, Sees, StepsOfTwo, StepsOnBerths, list_of};
 
 use crate::core_steps::{caller_view, spent_view};
 use crate::element::{found, put};
@@ -58,8 +58,7 @@ pub fn enlist(
     berths: &mut Vec<Berth>,
     cells: &mut Vec<Cell>,
 ) -> View
-    ensures { (s : Ring) → s.berths ≡ berths.old.items → s.cells ≡ cells.old.items → Sees s seat view
-        → record s { berths = berths.new.items; cells = cells.new.items; views = slice_set s.views seat result } ≡ enlist_role shape s seat who view.role }
+    ensures { StepsOnBerths seat view result berths.old.items berths.new.items cells.old.items cells.new.items (λ s. enlist_role shape s seat who) }
 {
     let View { shape: own, role } = view;
     let pool = match role {
@@ -121,8 +120,7 @@ pub fn split(
 
 /// A pool takes in the list of a caller that has left, whose seat is spent.
 pub fn gather(shape: Shape, view: View, gone: View) -> (View, View)
-    ensures { (s : Ring) (seat other : ℕ) → other ≢ seat → Sees s seat view → Sees s other gone
-        → record s { views = slice_set (slice_set s.views seat result.0) other result.1 } ≡ gather_roles shape s seat other view.role gone.role }
+    ensures { StepsOfTwo view gone result.0 result.1 (gather_roles shape) }
 {
     let View { shape: own, role } = view;
     let pool = match role {
