@@ -12,7 +12,7 @@ use Rattle.ring_core.specs.declared.views.Role.{Role}
 use Rattle.ring_core.specs.declared.views.Role.TheVariants.{Caller}
 use Rattle.ring_core.specs.declared.views.View.{View}
 use Rattle.playout.specs.Machine.{start}
-use Rattle.playout.specs.History.{ticks, ReplyFits}
+use Rattle.playout.specs.History.{moves, ReplyFits}
 use Rattle.ring_core.specs.Ring.{Has}
 use Rattle.ring_core.specs.Steps.{caller_view, position_of}
 use Rattle.step_table.specs.Packed.{Kept, SeatState}
@@ -24,7 +24,7 @@ pub record Went (before last : SeatState) (call : Call) : Type 0 where
   pub shape : last.0.shape ≡ before.0.shape
   pub who : who_in last.0.role ≡ who_in before.0.role
   pub list : list_in last.0.role ≡ list_in before.0.role ++ call ∷ []
-  pub known : known_in last.0.role ≡ known_after (known_in before.0.role) (start + ticks (list_in before.0.role)) call
+  pub known : known_in last.0.role ≡ known_after (known_in before.0.role) (start + moves (list_in before.0.role)) call
 
 pub went : (k : Shape) (before last : SeatState) (c d : Calling) (call : Call) → before.0 ≡ caller_view k c → last.0 ≡ caller_view k d → d.who ≡ c.who → d.list ≡ c.list ++ call ∷ [] → d.known ≡ known_after c.known (position_of c) call → Went before last call
 went k before last c d call is will who list known =
@@ -34,7 +34,7 @@ went k before last c d call is will who list known =
       shape = ap (λ (v : View). v.shape) will ∙ sym (ap (λ (v : View). v.shape) is);
       who = ap who_in s ∙ (who ∙ sym (ap who_in r));
       list = ap list_in s ∙ (list ∙ ap (λ (x : Role). list_in x ++ call ∷ []) (sym r));
-      known = ap known_in s ∙ (known ∙ ap (λ (x : Role). known_after (known_in x) (start + ticks (list_in x)) call) (sym r));
+      known = ap known_in s ∙ (known ∙ ap (λ (x : Role). known_after (known_in x) (start + moves (list_in x)) call) (sym r));
     }
 
 pub grown : (at now_at : TableId) (before last : SeatState) (old : PassView) (call : Call) → Went before last call → now_at ≡ at → pass_view (record { id = at; shape = before.0.shape }) before.0.role ≡ old

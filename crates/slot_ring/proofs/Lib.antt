@@ -2,6 +2,7 @@ pub mod OpeningWords
 pub mod Grows
 pub mod Filings
 pub mod Callers
+pub mod Players
 pub mod Pools
 pub mod Reading
 pub mod Listed

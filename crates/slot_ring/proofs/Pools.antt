@@ -8,7 +8,7 @@ use Rattle.ring_core.specs.declared.views.Pooling.{Pooling}
 use Rattle.ring_core.specs.declared.views.Calling.{Calling}
 use Rattle.ring_core.specs.declared.views.Departing.{Departing}
 use Rattle.playout.specs.Machine.{start}
-use Rattle.playout.specs.History.{ticks}
+use Rattle.playout.specs.History.{moves}
 use Rattle.ring_core.specs.Ring.{slot_count}
 use Rattle.ring_core.specs.Steps.{pool_view, caller_view, newcomer, without, only, with_list}
 use Rattle.step_table.specs.Packed.{Kept, SeatState, pack_berth}
@@ -79,7 +79,7 @@ pub player_enlisted : (me now : SeatState) (who spare : ℕ) → Enlisted me now
 player_enlisted me now who spare e is =
     let c : Calling = e.calling in
     subst (λ (x : SeatState). IsPlayers x spare start) (sym e.is)
-    (c, e.kept, refl, e.cell, e.flight, e.number ∙ is, ap (λ (l : List Call). start + ticks l) e.list, e.small)
+    (c, e.kept, refl, e.cell, e.flight, e.number ∙ is, ap (λ (l : List Call). start + moves l) e.list, e.small)
 
 pub known_enlisted : (me now : SeatState) (who spare : ℕ) → Enlisted me now who spare → known_in now.0.role ≡ nothing_known
 known_enlisted me now who spare e = ap (λ (m : SeatState). known_in m.0.role) e.is ∙ e.known

@@ -1,15 +1,15 @@
 -- What contracts see of passes, blanks, gathers and notes.
-use Rattle.std.specs.Prelude.{◌≡◌, ℕ, ◌+◌, ◌%◌, ◌^◌, ◌<◌, ◌≤◌, List, [], ◌∷◌, ◌++◌, Option, Some, None, IsSome, Bool, true, false, max, replicate}
+use Rattle.std.specs.Prelude.{◌≡◌, ℕ, ◌+◌, ◌%◌, ◌^◌, ◌<◌, ◌≤◌, List, [], ◌∷◌, ◌++◌, Option, Some, None, IsSome, Bool, true, false, not, max, replicate}
 use Rattle.frame_codec.specs.declared.item.Item.{Item}
 use Rattle.playout.specs.declared.call.Call.{Call}
-use Rattle.playout.specs.declared.call.Call.TheVariants.{FileCall, SourceCall, BaseCall, PeekCall, TickCall}
+use Rattle.playout.specs.declared.call.Call.TheVariants.{FileCall, SourceCall, BaseCall, PeekCall, TickCall, LookCall, HoldCall, RetireCall}
 use Rattle.playout.specs.declared.reply.FileReply.{FileReply}
 use Rattle.playout.specs.declared.reply.FileReply.TheVariants.{Accepted, Duplicate, Late, Beyond}
 use Rattle.ring_core.specs.declared.views.Known.{Known}
 use Rattle.ring_core.specs.declared.views.Role.{Role}
 use Rattle.ring_core.specs.declared.views.Role.TheVariants.{Pool, Caller, Departed, Note, Spent}
 use Rattle.playout.specs.Machine.{start, held_or}
-use Rattle.playout.specs.History.{ticks}
+use Rattle.playout.specs.History.{moves}
 use Rattle.ring_core.specs.declared.words.SlotWord.{SlotWord}
 use Rattle.ring_core.specs.declared.views.Shape.{Shape}
 use Rattle.ring_core.specs.Ring.{slot_count, word_of}
@@ -82,9 +82,13 @@ lists_in Spent = []
 abbrev pub pass_view : Where → Role → PassView
 pass_view w r = record { ring = w; who = who_in r; list = list_in r; known = known_in r }
 
--- the number that a player's next tick plays
+-- the number that a player's next tick or retire takes
 abbrev pub position_in : PassView → ℕ
-position_in p = start + ticks p.list
+position_in p = start + moves p.list
+
+-- the ring of a pass has 2 ^ g slots
+abbrev pub g_in : PassView → ℕ
+g_in p = p.ring.shape.g
 
 -- no list of this many filers and the player
 abbrev pub no_lists : ℕ → List (Option (List Call))
@@ -94,7 +98,7 @@ no_lists filers = replicate (filers + 1) None
 abbrev pub Grown : PassView → Call → PassView → Type 0
 Grown a call b = (b.ring ≡ a.ring) × (b.who ≡ a.who) × (b.list ≡ a.list ++ call ∷ [])
 
--- what is known after a call, by its reply; the tick's number was p
+-- what is known after a call, by its reply; the number of a tick or a retire was p
 abbrev pub known_after : Known → ℕ → Call → Known
 known_after k p (FileCall n f Accepted) = with_pair k n f
 known_after k p (FileCall n f Duplicate) = k
@@ -104,6 +108,9 @@ known_after k p (SourceCall x held) = with_source k held
 known_after k p (BaseCall x held) = with_base k held
 known_after k p (PeekCall held) = record k { base = either_known held k.base }
 known_after k p (TickCall item) = at_position k (p + 1)
+known_after k p (LookCall ahead filled) = k
+known_after k p (HoldCall held) = k
+known_after k p (RetireCall item) = at_position k (p + 1)
 
 abbrev pub IsLate : FileReply → Type 0
 IsLate Accepted = ⊥
@@ -111,7 +118,7 @@ IsLate Duplicate = ⊥
 IsLate (Late ahead) = Unit {0}
 IsLate (Beyond ahead) = ⊥
 
--- the number is taken, or has been played
+-- the number is taken, or has been passed
 abbrev pub IsSettled : FileReply → Type 0
 IsSettled Accepted = ⊥
 IsSettled Duplicate = Unit {0}
@@ -138,9 +145,17 @@ IsReplyOf w n (Beyond ahead) = (w.number < n) × (ahead ≡ w.number)
 abbrev pub SlotSays : PassView → ℕ → FileReply → Type 0
 SlotSays a n reply = (w : SlotWord) × IsOfSlot a.ring.shape a.known n w × IsReplyOf w n reply
 
--- a word of the tick's number was taken out with its cell: where it is filled the item is the frame in the cell, and else an erasure
-abbrev pub TickSays : ℕ → Item → Type 0
-TickSays n item = (w : SlotWord) × (kept : Kept) × Fits w × (w.number ≡ n) × (item ≡ taken w.filled kept) × (w.filled ≡ true → IsSome kept)
+-- a word of this number was taken out with its cell: where it is filled the item is the frame in the cell, and else an erasure
+abbrev pub TakeSays : ℕ → Item → Type 0
+TakeSays n item = (w : SlotWord) × (kept : Kept) × Fits w × (w.number ≡ n) × (item ≡ taken w.filled kept) × (w.filled ≡ true → IsSome kept)
+
+-- a word of this number was read, which is filled or free
+abbrev pub LookSays : ℕ → Bool → Type 0
+LookSays n filled = (w : SlotWord) × Fits w × (w.number ≡ n) × (filled ≡ w.filled)
+
+-- a word of this number was read, and a beat may pass there where it is free
+abbrev pub HoldSays : ℕ → Bool → Type 0
+HoldSays n held = (w : SlotWord) × Fits w × (w.number ≡ n) × (held ≡ not w.filled)
 
 -- a source or base word that was read: nothing, or a value of 32 bits, and the one that the reader knew
 pub record IsHeldRead (knew : Option ℕ) (word : ℕ) : Type 0 where

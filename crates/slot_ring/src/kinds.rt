@@ -4,9 +4,28 @@ use step_table::Kind;
 pub(crate) struct Ticks;
 
 impl Kind for Ticks {
-    ghost use Rattle.step_table.specs.Kinds.{tick};
+    ghost use Rattle.step_table.specs.Kinds.{move};
+    ghost use Rattle.ring_core.specs.declared.player_steps.Move.TheVariants.{Played};
 
-    ghost kind = { tick };
+    ghost kind = { move Played };
+}
+
+pub(crate) struct Retires;
+
+impl Kind for Retires {
+    ghost use Rattle.step_table.specs.Kinds.{move};
+    ghost use Rattle.ring_core.specs.declared.player_steps.Move.TheVariants.{Retired};
+
+    ghost kind = { move Retired };
+}
+
+pub(crate) struct Holds;
+
+impl Kind for Holds {
+    ghost use Rattle.step_table.specs.Kinds.{glance};
+    ghost use Rattle.ring_core.specs.declared.player_steps.Glance.TheVariants.{Here};
+
+    ghost kind = { glance Here };
 }
 
 pub(crate) struct Publishes;

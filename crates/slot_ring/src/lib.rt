@@ -1,4 +1,4 @@
-//! The lock-free playout ring: filers file and a player ticks at once, with one legal history that explains all their calls.
+//! The lock-free playout ring: filers file and a player looks and ticks at once, with one legal history that explains all their calls.
 #![tactic(auto)]
 
 mod blank;
@@ -9,6 +9,7 @@ mod gather;
 mod holding;
 mod kinds;
 mod left;
+mod looking;
 mod note;
 mod opening;
 mod pass;

@@ -44,7 +44,7 @@ impl Model for PlayerPass {
 }
 
 impl PlayerPass {
-    /// The number that the next tick plays: 2^32 and a tick more for each that was made.
+    /// The number that the next tick or retire takes: 2^32, and one more for each that was made.
     pub fn position(&self) -> u64
         ensures { result ≡ position_in self.now }
     {

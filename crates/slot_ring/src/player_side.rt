@@ -50,11 +50,13 @@ impl<'a, L: Ledger> RingPlayer<'a, L> {
 }
 
 impl<'a, L: Ledger> PlayerSide for RingPlayer<'a, L> {
-    ghost use Rattle.slot_ring.specs.Seen.{Grown, position_in};
+    ghost use Rattle.slot_ring.specs.Seen.{Grown, position_in, g_in};
 
     ghost did = { Grown };
 
     ghost position = { position_in };
+
+    ghost g = { g_in };
 
     fn peek(&mut self) -> Option<u32> {
         self.ring.peek::<L>(&mut self.pass, &mut self.steps)
@@ -62,5 +64,17 @@ impl<'a, L: Ledger> PlayerSide for RingPlayer<'a, L> {
 
     fn tick(&mut self) -> Item {
         self.ring.tick::<L>(&mut self.pass, &mut self.steps)
+    }
+
+    fn look(&mut self, ahead: u32) -> bool {
+        self.ring.look::<L>(&mut self.pass, ahead, &mut self.steps)
+    }
+
+    fn hold(&mut self) -> bool {
+        self.ring.hold::<L>(&mut self.pass, &mut self.steps)
+    }
+
+    fn retire(&mut self) -> Item {
+        self.ring.retire::<L>(&mut self.pass, &mut self.steps)
     }
 }

@@ -2,27 +2,49 @@
 use super::tests::START;
 use super::*;
 use frame_codec::{Frame33, Item};
-use playout::FileReply;
+use playout::{Call, FileReply};
 use std::alloc::Global;
 
 // How often a filer tries a number.
 pub(crate) const TRIES: u64 = 8;
 
-// The replies of each of four filers, and the player's items.
+// The replies of each of four filers, and the player's calls.
 #[derive(Drop)]
 pub(crate) struct Answers {
     pub(crate) a: Vec<FileReply>,
     pub(crate) b: Vec<FileReply>,
     pub(crate) c: Vec<FileReply>,
     pub(crate) d: Vec<FileReply>,
-    pub(crate) items: Vec<Item>,
+    pub(crate) calls: Vec<Call>,
 }
 
-// What stands behind the replies: the next tick's number, and the filers whose frames wait.
+// What stands behind the replies: the number that the next tick or retire takes, the filers whose frames wait, and the numbers at which
+// the player finds no frame, with how many of these are past.
 #[derive(Drop)]
 struct Replay {
     position: u64,
     waiting: Vec<(u64, u32)>,
+    missing: Vec<u64>,
+    past: usize,
+}
+
+// The numbers at which the player's looks and holds find no frame, in their order.
+fn missing_in(alloc: Global, calls: &[Call]) -> Result<Vec<u64>, OutOfMemory> {
+    let mut position = START;
+    let mut missing = Vec::new(alloc);
+    for call in calls {
+        match call {
+            Call::LookCall {
+                ahead,
+                filled: false,
+            } => missing.push(position.saturating_add(*ahead as u64))?,
+            Call::HoldCall { held: true } => missing.push(position)?,
+            Call::TickCall { item: _ } => position = position.saturating_add(1),
+            Call::RetireCall { item: _ } => position = position.saturating_add(1),
+            _ => {}
+        }
+    }
+    Ok(missing)
 }
 
 impl Replay {
@@ -39,12 +61,24 @@ impl Replay {
         ahead >= self.position && ahead < self.position.saturating_add(4) && ahead % 4 == number % 4
     }
 
+    // Whether the player still is to find no frame there.
+    fn is_missing(&self, number: u64) -> bool {
+        for i in self.past..self.missing.len() {
+            if self.missing[i] == number {
+                return true;
+            }
+        }
+        false
+    }
+
     // Whether the reply may be given now.
     fn agrees(&self, number: u64, reply: FileReply) -> bool {
         let end = self.position.saturating_add(4);
         let within = number >= self.position && number < end;
         match reply {
-            FileReply::Accepted => within && self.filer_at(number).is_none(),
+            FileReply::Accepted => {
+                within && self.filer_at(number).is_none() && !self.is_missing(number)
+            }
             FileReply::Duplicate => within && self.filer_at(number).is_some(),
             FileReply::Late { ahead } => number < self.position && self.is_ahead(number, ahead),
             FileReply::Beyond { ahead } => number >= end && self.is_ahead(number, ahead),
@@ -64,7 +98,7 @@ impl Replay {
         Ok(replies.len())
     }
 
-    // Takes what may be given before the next tick. A reply may wait for another filer's; the window has four numbers, so a few
+    // Takes what may be given before the player's next call. A reply may wait for another filer's; the window has four numbers, so a few
     // rounds take all.
     fn take_all(
         &mut self,
@@ -80,8 +114,8 @@ impl Replay {
         Ok(taken)
     }
 
-    // Ticks, where the item is what waits.
-    fn tick(&mut self, item: Item, frames: &[Frame33]) -> bool {
+    // Goes on by one number, where the item is what waits.
+    fn goes_on(&mut self, item: Item, frames: &[Frame33]) -> bool {
         let right = match self.filer_at(self.position) {
             Some(who) => match frames.get(who as usize) {
                 Some(frame) => item == Item::Frame(*frame),
@@ -95,6 +129,27 @@ impl Replay {
         right
     }
 
+    // Whether a frame waits as the player found it.
+    fn shows(&mut self, number: u64, filled: bool) -> bool {
+        if !filled {
+            self.past = self.past.saturating_add(1);
+        }
+        self.filer_at(number).is_some() == filled
+    }
+
+    // Takes the player's next call, where its answer may be given now.
+    fn play(&mut self, call: &Call, frames: &[Frame33]) -> bool {
+        match call {
+            Call::LookCall { ahead, filled } => {
+                self.shows(self.position.saturating_add(*ahead as u64), *filled)
+            }
+            Call::HoldCall { held } => self.shows(self.position, !*held),
+            Call::TickCall { item } => self.goes_on(*item, frames),
+            Call::RetireCall { item } => self.goes_on(*item, frames),
+            _ => false,
+        }
+    }
+
     // Whether there is one history of all calls, in which each reply is given as early as it may be.
     fn takes_the_calls(
         &mut self,
@@ -102,8 +157,8 @@ impl Replay {
         frames: &[Frame33],
     ) -> Result<bool, OutOfMemory> {
         let mut taken = self.take_all(answers, [0; 4])?;
-        for item in &answers.items {
-            if !self.tick(*item, frames) {
+        for call in &answers.calls {
+            if !self.play(call, frames) {
                 return Ok(false);
             }
             taken = self.take_all(answers, taken)?;
@@ -149,6 +204,8 @@ pub(crate) fn has_history(
     let mut replay = Replay {
         position: START,
         waiting: Vec::new(alloc),
+        missing: missing_in(alloc, answers.calls.as_slice())?,
+        past: 0,
     };
     if !replay.takes_the_calls(answers, frames)? {
         return Ok(false);

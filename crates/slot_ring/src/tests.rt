@@ -38,7 +38,7 @@ struct Opened {
 }
 
 fn open<L: Ledger>(alloc: Global, steps: &mut Steps<L>) -> Result<Opened, OutOfMemory>
-    ensures shape { IfOk result (λ o. o.ring.shape.filers ≡ 2) }
+    ensures shape { IfOk result (λ o. (o.ring.shape.filers ≡ 2) × (o.ring.shape.g ≡ 2)) }
     ensures rings { IfOk result (λ o. (o.one.ring ≡ o.ring) × (o.two.ring ≡ o.ring) × (o.player.ring ≡ o.ring) × (o.blank.ring ≡ o.ring)) }
     ensures who { IfOk result (λ o. (o.one.who ≡ 0) × (o.two.who ≡ 1) × (o.player.who ≡ 2)) }
     ensures list { IfOk result (λ o. o.player.list ≡ []) }
@@ -159,11 +159,16 @@ fn say_and_file<S: FilerSide>(side: &mut S, frame: &Frame33) -> (u32, u32, FileR
     (held, base, side.file(START, frame))
 }
 
-fn peek_and_play<S: PlayerSide>(side: &mut S) -> (Option<u32>, Item)
-    requires { S.position side.old < 2 ^ 33 }
+// What a player sees and plays, and what it leaves unplayed, whatever stands behind its side.
+fn look_and_play<S: PlayerSide>(side: &mut S) -> (Option<u32>, [bool; 2], [Item; 2])
+    requires slot { 1 < 2 ^ S.g side.old }
+    requires position { S.position side.old + 1 < 2 ^ 33 }
 {
     let base = side.peek();
-    (base, side.tick())
+    let ahead = side.look(1);
+    let held = side.hold();
+    let played = side.tick();
+    (base, [ahead, held], [played, side.retire()])
 }
 
 fn filer_side<L: Ledger>(
@@ -186,14 +191,15 @@ fn player_side<L: Ledger>(
     ring: &SlotRing,
     pass: PlayerPass,
     counted: ledger::Blank,
-) -> (Option<u32>, Item)
+) -> (Option<u32>, [bool; 2], [Item; 2])
     requires ring { pass.ring ≡ ring.now }
-    requires below { position_in pass < 2 ^ 33 }
+    requires slots { ring.now.shape.g ≡ 2 }
+    requires below { position_in pass + 1 < 2 ^ 33 }
     requires name { counted.name ≡ L.name }
     requires parts { (counted.parts ≡ L.parts) × (counted.parts ≡ 1) }
 {
     let mut side = RingPlayer::new(ring, pass, Steps::<L>::open(counted));
-    let played = peek_and_play(&mut side);
+    let played = look_and_play(&mut side);
     drop(side.into_pass());
     played
 }
@@ -201,7 +207,7 @@ fn player_side<L: Ledger>(
 fn open_counted<L: Ledger>(alloc: Global, counted: ledger::Blank) -> Result<Opened, OutOfMemory>
     requires name { counted.name ≡ L.name }
     requires parts { (counted.parts ≡ L.parts) × (counted.parts ≡ 1) }
-    ensures rings { IfOk result (λ o. (o.one.ring ≡ o.ring) × (o.player.ring ≡ o.ring) × (o.player.list ≡ [])) }
+    ensures rings { IfOk result (λ o. (o.one.ring ≡ o.ring) × (o.player.ring ≡ o.ring) × (o.player.list ≡ []) × (o.ring.shape.g ≡ 2)) }
 {
     let mut steps = Steps::<L>::open(counted);
     open(alloc, &mut steps)
@@ -220,6 +226,136 @@ fn sides_share_a_ring(rt: HostRuntime) -> Result<(), Fail> {
     let said = filer_side::<Brand>(&ring, one, ledger::Blank::new(1), &z);
     assert_eq!(rt; said, (305419896, 1000, FileReply::Accepted));
     let played = player_side::<Brand>(&ring, player, ledger::Blank::new(1));
-    assert_eq!(rt; played, (Some(1000), Item::Frame(z)));
+    assert_eq!(rt;
+        played,
+        (Some(1000), [false, false], [Item::Frame(z), Item::Erasure])
+    );
+    Ok(())
+}
+
+// What the player found, took and left unplayed, the number that it came to, and what was left.
+#[derive(Drop)]
+struct Waits {
+    found: [bool; 4],
+    items: [Item; 3],
+    position: u64,
+    left: Left,
+}
+
+// A frame is played, and a beat passes at the next number, whose frame comes late and is played then. The third is there in time, and
+// the player leaves it unplayed.
+fn late_frames<L: Ledger>(
+    alloc: Global,
+    counted: ledger::Blank,
+    z: &Frame33,
+    w: &Frame33,
+) -> Result<Waits, OutOfMemory>
+    requires name { counted.name ≡ L.name }
+    requires parts { (counted.parts ≡ L.parts) × (counted.parts ≡ 1) }
+{
+    let mut steps = Steps::<L>::open(counted);
+    let Opened {
+        ring,
+        mut one,
+        two,
+        mut player,
+        blank,
+    } = open(alloc, &mut steps)?;
+    ring.file(&mut one, START, z, &mut steps);
+    let first = ring.hold(&mut player, &mut steps);
+    let played = ring.tick(&mut player, &mut steps);
+    let held = ring.hold(&mut player, &mut steps);
+    ring.file(&mut one, START + 1, w, &mut steps);
+    let found = ring.look(&mut player, 0, &mut steps);
+    let late = ring.tick(&mut player, &mut steps);
+    ring.file(&mut one, START + 2, z, &mut steps);
+    let there = ring.hold(&mut player, &mut steps);
+    let unplayed = ring.retire(&mut player, &mut steps);
+    let position = player.position();
+    let opened = Opened {
+        ring,
+        one,
+        two,
+        player,
+        blank,
+    };
+    Ok(Waits {
+        found: [first, held, found, there],
+        items: [played, late, unplayed],
+        position,
+        left: end(opened, &mut steps),
+    })
+}
+
+#[test]
+fn a_late_frame_is_held_for(rt: HostRuntime) -> Result<(), Fail> {
+    let (z, w) = (frame_of(&Z)?, frame_of(&W)?);
+    let waits = late_frames::<Brand>(rt.alloc(), ledger::Blank::new(1), &z, &w)?;
+    assert_eq!(rt; waits.found, [false, true, true, false]);
+    assert_eq!(rt;
+        waits.items,
+        [Item::Frame(z), Item::Frame(w), Item::Frame(z)]
+    );
+    assert!(rt; waits.position == START + 3);
+    assert!(rt; waits.left.len() == 0);
+    Ok(())
+}
+
+// A frame is played, and the next one is lost: once the one after it is there, the player retires the lost one. A frame is left.
+fn lost_frame<L: Ledger>(
+    alloc: Global,
+    counted: ledger::Blank,
+    z: &Frame33,
+    w: &Frame33,
+) -> Result<Waits, OutOfMemory>
+    requires name { counted.name ≡ L.name }
+    requires parts { (counted.parts ≡ L.parts) × (counted.parts ≡ 1) }
+{
+    let mut steps = Steps::<L>::open(counted);
+    let Opened {
+        ring,
+        mut one,
+        two,
+        mut player,
+        blank,
+    } = open(alloc, &mut steps)?;
+    ring.file(&mut one, START, z, &mut steps);
+    let first = ring.tick(&mut player, &mut steps);
+    let held = ring.hold(&mut player, &mut steps);
+    ring.file(&mut one, START + 2, w, &mut steps);
+    let here = ring.look(&mut player, 0, &mut steps);
+    let next = ring.look(&mut player, 1, &mut steps);
+    let retired = ring.retire(&mut player, &mut steps);
+    let free = ring.hold(&mut player, &mut steps);
+    let played = ring.tick(&mut player, &mut steps);
+    ring.file(&mut one, START + 6, z, &mut steps);
+    let position = player.position();
+    let opened = Opened {
+        ring,
+        one,
+        two,
+        player,
+        blank,
+    };
+    Ok(Waits {
+        found: [held, here, next, free],
+        items: [first, retired, played],
+        position,
+        left: end(opened, &mut steps),
+    })
+}
+
+#[test]
+fn a_lost_frame_is_retired(rt: HostRuntime) -> Result<(), Fail> {
+    let (z, w) = (frame_of(&Z)?, frame_of(&W)?);
+    let waits = lost_frame::<Brand>(rt.alloc(), ledger::Blank::new(1), &z, &w)?;
+    assert_eq!(rt; waits.found, [true, false, true, false]);
+    assert_eq!(rt;
+        waits.items,
+        [Item::Frame(z), Item::Erasure, Item::Frame(w)]
+    );
+    assert!(rt; waits.position == START + 3);
+    assert_eq!(rt; waits.left.get(0), Some((START + 6, z)));
+    assert!(rt; waits.left.len() == 1);
     Ok(())
 }

@@ -1,13 +1,13 @@
 // Four filers and a player at once.
-ghost use Rattle.std.specs.Prelude.{◌≡◌, ◌≤◌, ◌^◌, [], IfOk};
+ghost use Rattle.std.specs.Prelude.{◌≡◌, ◌<◌, ◌≤◌, ◌+◌, ◌^◌, [], IfOk};
 ghost use Rattle.std.specs.Thread.{IsSync};
 ghost use Rattle.slot_ring.specs.Seen.{position_in};
 
 use super::replay::{Answers, TRIES, has_history};
 use super::tests::{START, Z};
 use super::*;
-use frame_codec::{Frame33, Item, frame_of};
-use playout::FileReply;
+use frame_codec::{Frame33, frame_of};
+use playout::{Call, FileReply};
 use std::alloc::Global;
 use std::marker::Brand;
 use std::sync::ledger;
@@ -19,8 +19,8 @@ use std::thread::{Threads, join_mut};
 // Each filer tries 600 numbers, one after the other, so often each.
 const CALLS: u64 = 4800;
 
-// Fewer than the numbers, so that frames may be left.
-const TICKS: u64 = 480;
+// Half of the player's calls go on by a number: fewer than the filers' numbers, so that frames may be left.
+const PLAYS: u64 = 960;
 
 #[derive(Drop)]
 struct Filing {
@@ -32,7 +32,7 @@ struct Filing {
 #[derive(Drop)]
 struct Playing {
     pass: PlayerPass,
-    items: Vec<Item>,
+    calls: Vec<Call>,
 }
 
 fn file_over<L: Ledger>(
@@ -74,22 +74,57 @@ fn run_filing(ring: &SlotRing, filing: &mut Filing)
     );
 }
 
-// Eight ticks slower than the filers' numbers, and eight at once.
+// The player holds, looks, ticks and retires in turn.
+fn play_once<L: Ledger>(
+    ring: &SlotRing,
+    pass: &mut PlayerPass,
+    made: u64,
+    steps: &mut Steps<L>,
+) -> Call
+    requires ring { pass.old.ring ≡ ring.now }
+    requires slots { ring.now.shape.g ≡ 2 }
+    requires position { position_in pass.old < 2 ^ 33 }
+    ensures ring { pass.new.ring ≡ ring.now }
+    ensures who { pass.new.who ≡ pass.old.who }
+    ensures position { position_in pass.new ≤ position_in pass.old + 1 }
+{
+    match made % 4 {
+        0 => Call::HoldCall {
+            held: ring.hold(pass, steps),
+        },
+        1 => {
+            let ahead = (made / 4 % 4) as u32;
+            Call::LookCall {
+                ahead,
+                filled: ring.look(pass, ahead, steps),
+            }
+        }
+        2 => Call::TickCall {
+            item: ring.tick(pass, steps),
+        },
+        _ => Call::RetireCall {
+            item: ring.retire(pass, steps),
+        },
+    }
+}
+
+// Sixteen calls slower than the filers' numbers, and sixteen at once.
 fn pause(made: u64) {
-    if made % 16 < 8 {
-        for _ in 0..2 * TRIES {
+    if made % 32 < 16 {
+        for _ in 0..TRIES {
             thread::yield_now();
         }
     }
 }
 
-fn tick_over<L: Ledger>(
+fn play_over<L: Ledger>(
     ring: &SlotRing,
     pass: &mut PlayerPass,
     counted: ledger::Blank,
-    items: &mut Vec<Item>,
+    calls: &mut Vec<Call>,
 )
     requires ring { pass.old.ring ≡ ring.now }
+    requires slots { ring.now.shape.g ≡ 2 }
     requires position { position_in pass.old ≤ 2 ^ 32 }
     requires name { counted.name ≡ L.name }
     requires parts { (counted.parts ≡ L.parts) × (counted.parts ≡ 1) }
@@ -98,9 +133,9 @@ fn tick_over<L: Ledger>(
 {
     let mut steps = Steps::<L>::open(counted);
     let mut made = 0;
-    while made < TICKS {
-        let item = ring.tick(pass, &mut steps);
-        if items.extend_from_slice(&[item]).is_err() {
+    while made < PLAYS {
+        let call = play_once(ring, pass, made, &mut steps);
+        if calls.extend_from_slice(&[call]).is_err() {
             return;
         }
         pause(made);
@@ -110,15 +145,16 @@ fn tick_over<L: Ledger>(
 
 fn run_playing(ring: &SlotRing, playing: &mut Playing)
     requires ring { playing.old.pass.ring ≡ ring.now }
+    requires slots { ring.now.shape.g ≡ 2 }
     requires position { position_in playing.old.pass ≤ 2 ^ 32 }
     ensures ring { playing.new.pass.ring ≡ ring.now }
     ensures who { playing.new.pass.who ≡ playing.old.pass.who }
 {
-    tick_over::<Brand>(
+    play_over::<Brand>(
         ring,
         &mut playing.pass,
         ledger::Blank::new(1),
-        &mut playing.items,
+        &mut playing.calls,
     );
 }
 
@@ -173,7 +209,7 @@ fn all_at_once<R: Threads + Sync>(
     p: &mut Playing,
 )
     requires filers { (a.old.pass.ring ≡ ring.now) × (b.old.pass.ring ≡ ring.now) × (c.old.pass.ring ≡ ring.now) × (d.old.pass.ring ≡ ring.now) }
-    requires player { (p.old.pass.ring ≡ ring.now) × (position_in p.old.pass ≤ 2 ^ 32) }
+    requires player { (p.old.pass.ring ≡ ring.now) × (position_in p.old.pass ≤ 2 ^ 32) × (ring.now.shape.g ≡ 2) }
     ensures a { (a.new.pass.ring ≡ ring.now) × (a.new.pass.who ≡ a.old.pass.who) }
     ensures b { (b.new.pass.ring ≡ ring.now) × (b.new.pass.who ≡ b.old.pass.who) }
     ensures c { (c.new.pass.ring ≡ ring.now) × (c.new.pass.who ≡ c.old.pass.who) }
@@ -200,7 +236,7 @@ fn no_answers(alloc: Global) -> Result<Answers, OutOfMemory> {
         b: Vec::with_capacity(alloc, calls)?,
         c: Vec::with_capacity(alloc, calls)?,
         d: Vec::with_capacity(alloc, calls)?,
-        items: Vec::with_capacity(alloc, TICKS as usize)?,
+        calls: Vec::with_capacity(alloc, PLAYS as usize)?,
     })
 }
 
@@ -217,7 +253,7 @@ struct Crew {
 }
 
 fn open<L: Ledger>(alloc: Global, steps: &mut Steps<L>) -> Result<Crew, OutOfMemory>
-    ensures shape { IfOk result (λ o. o.ring.shape.filers ≡ 4) }
+    ensures shape { IfOk result (λ o. (o.ring.shape.filers ≡ 4) × (o.ring.shape.g ≡ 2)) }
     ensures filers { IfOk result (λ o. (o.one.ring ≡ o.ring) × (o.two.ring ≡ o.ring) × (o.three.ring ≡ o.ring) × (o.four.ring ≡ o.ring)) }
     ensures rings { IfOk result (λ o. (o.player.ring ≡ o.ring) × (o.blank.ring ≡ o.ring)) }
     ensures who { IfOk result (λ o. (o.one.who ≡ 0) × (o.two.who ≡ 1) × (o.three.who ≡ 2) × (o.four.who ≡ 3) × (o.player.who ≡ 4)) }
@@ -253,7 +289,7 @@ fn contest<R: Threads + Sync>(
     frames: &[Frame33; 4],
 ) -> (Crew, Answers)
     requires filers { (crew.one.ring ≡ crew.ring) × (crew.two.ring ≡ crew.ring) × (crew.three.ring ≡ crew.ring) × (crew.four.ring ≡ crew.ring) }
-    requires player { (crew.player.ring ≡ crew.ring) × (crew.player.list ≡ []) }
+    requires player { (crew.player.ring ≡ crew.ring) × (crew.player.list ≡ []) × (crew.ring.shape.g ≡ 2) }
     ensures ring { (result.0.ring ≡ crew.ring) × (result.0.blank ≡ crew.blank) }
     ensures filers { (result.0.one.ring ≡ crew.ring) × (result.0.two.ring ≡ crew.ring) × (result.0.three.ring ≡ crew.ring) × (result.0.four.ring ≡ crew.ring) }
     ensures player { (result.0.player.ring ≡ crew.ring) × (result.0.player.who ≡ crew.player.who) }
@@ -268,14 +304,14 @@ fn contest<R: Threads + Sync>(
         player,
         blank,
     } = crew;
-    let Answers { a, b, c, d, items } = answers;
+    let Answers { a, b, c, d, calls } = answers;
     let mut a = begin(one, frames[0], a);
     let mut b = begin(two, frames[1], b);
     let mut c = begin(three, frames[2], c);
     let mut d = begin(four, frames[3], d);
     let mut p = Playing {
         pass: player,
-        items,
+        calls,
     };
     all_at_once(rt, &ring, &mut a, &mut b, &mut c, &mut d, &mut p);
     let (one, a) = finish(a);
@@ -284,7 +320,7 @@ fn contest<R: Threads + Sync>(
     let (four, d) = finish(d);
     let Playing {
         pass: player,
-        items,
+        calls,
     } = p;
     let crew = Crew {
         ring,
@@ -295,7 +331,7 @@ fn contest<R: Threads + Sync>(
         player,
         blank,
     };
-    (crew, Answers { a, b, c, d, items })
+    (crew, Answers { a, b, c, d, calls })
 }
 
 fn begin(pass: FilerPass, frame: Frame33, replies: Vec<FileReply>) -> Filing
@@ -382,7 +418,7 @@ fn all_called(answers: &Answers) -> bool {
         && answers.b.len() == calls
         && answers.c.len() == calls
         && answers.d.len() == calls
-        && answers.items.len() == TICKS as usize
+        && answers.calls.len() == PLAYS as usize
 }
 
 fn frame_ending(last: u8) -> Result<Frame33, Fail> {

@@ -1,5 +1,5 @@
 -- An enlisting is a step that the table's rule allows.
-use Rattle.std.proofs.Common.{◌≡◌, ℕ, ◌+◌, ◌^◌, ◌<◌, ◌≤◌, List, [], ◌∷◌, map, set, length, Some, true, refl, sym, ap, ◌∙◌, subst, arith}
+use Rattle.std.proofs.Common.{◌≡◌, ℕ, ◌+◌, ◌^◌, ◌<◌, ◌≤◌, List, [], ◌∷◌, map, length, Some, true, refl, sym, ap, ◌∙◌, subst, arith}
 use Rattle.std.specs.Prelude.{slice_get}
 use Rattle.std.proofs.Math.Nat.{pow-le-pow_right}
 use Rattle.std.proofs.lemmas.List.{length-map}
@@ -22,7 +22,7 @@ use Rattle.ring_core.specs.RingLaws.{AllStepsKeepTheRule}
 use Rattle.step_table.specs.Packed.{Kept, SeatState, pack_slot, pack_berth, home_of, Holds, HeldFit}
 use Rattle.step_table.specs.Kinds.{enlist, MaySwap, told}
 use Rattle.step_table.proofs.Spelling.{index_middle, set_middle}
-use Rattle.step_table.proofs.Ticking.{T, spelt, Goes}
+use Rattle.step_table.proofs.Taking.{T, spelt, Goes}
 
 goes : AllStepsKeepTheRule → (k : Shape) (s : Ring) (rule : RingRule k s) (keep : HeldFit s) (id : ℕ) (p : Pooling) (who : ℕ) → get_elem? s.views id ≡ some (pool_view k p) → slice_get p.rights who ≡ Some true → ((n : ℕ) (l : List Call) → slice_get p.lists n ≡ Some (Some l) → ⊥) → who ≤ k.filers
     → Goes k (spelt s) id (pool_view k p, []) (length (map pack_slot s.slots) + who) (pack_berth Out) (told (enlist who) (pool_view k p, []))

@@ -7,7 +7,7 @@ use lib.ListN.{get_elem?}
 use lib.Seq.{map-set}
 use prog.Atomic.{either}
 use Rattle.atomic_table.specs.Table.{keeps, takes, gives, chain, Allows}
-use Rattle.atomic_table.proofs.Lists.{set_else, set_again, at_map, exchanged}
+use Rattle.atomic_table.proofs.Lists.{set_else, at_map, exchanged}
 use Rattle.ring_core.specs.declared.views.Shape.{Shape}
 use Rattle.ring_core.specs.declared.views.Flight.{Flight}
 use Rattle.ring_core.specs.declared.views.Calling.{Calling}
@@ -23,10 +23,11 @@ use Rattle.ring_core.specs.RuleLaws.{slots_positive, spare_apart}
 use Rattle.ring_core.specs.RingLaws.{AllStepsKeepTheRule, CallersAreFresh, SlotsAreNear}
 use Rattle.step_table.proofs.Telling.{tells_of}
 use Rattle.step_table.specs.Packed.{Kept, SeatState, pack_slot, filled_bit, pack_berth, words_of, home_of, Holds, HeldFit, Fits}
-use Rattle.step_table.specs.Kinds.{load, publish, MayLoad, MayExchange, AfterLoad, AfterPublish, told, WordTells}
+use Rattle.step_table.specs.Kinds.{load, publish, MayLoad, MayExchange, AfterLoad, AfterPublish, told}
 use Rattle.step_table.specs.WordLaws.{index_front, slot_small}
 use Rattle.step_table.proofs.Spelling.{word_stays, set_front, slot_value}
-use Rattle.step_table.proofs.Ticking.{T, spelt, Goes, caller-injective}
+use Rattle.step_table.proofs.Taking.{T, spelt, Goes, caller-injective}
+use Rattle.step_table.proofs.Reading.{reads, read_allowed}
 
 bit_by : (a b : Bool) (c d n o : ℕ) → n < 281474976710656 → o < 281474976710656 → c < 32768 → d < 32768 → filled_bit a + c * 281474976710656 + n ≡ filled_bit b + d * 281474976710656 + o → Path Bool a b × (c ≡ d) × (n ≡ o)
 bit_by true true c d n o h i j k e = (refl, omega arith, omega arith)
@@ -40,30 +41,13 @@ pack-injective w x fw fx e =
     let same = bit_by w.filled x.filled w.cell x.cell w.number x.number fw.0 fx.0 fw.1 fx.1 e in
     λ i. record { number = same.2 i; filled = same.0 i; cell = same.1 i }
 
-load_goes : AllStepsKeepTheRule → CallersAreFresh → SlotsAreNear → (k : Shape) (s : Ring) (rule : RingRule k s) (keep : HeldFit s) (id : ℕ) (c : Calling) (held : List (ℕ × Kept)) (n : ℕ) (f : List ℕ) → get_elem? s.views id ≡ some (caller_view k c) → c.who < k.filers
-    → Goes k (spelt s) id (caller_view k c, held) (n % slot_count k) (slice_index (words_of s) (n % slot_count k)) (told (load n f) (caller_view k c, held))
-load_goes steps fresh bounded k s rule keep id c held n f at filer =
-    let R : ℕ = slot_count k in let i : ℕ = n % R in
-    let len : ℕ = length s.slots in let wide : len ≡ R = rule.sized.slots in let near : i < R = mod-lt n (slots_positive k) in
-    let there = at_exists s.slots i (omega arith) in
-    let w : SlotWord = there.0 in
-    let u : View = caller_view k (loaded c w n f) in
-    let tells : AfterLoad k c n f held (slice_index (words_of s) i) (u, held) = (w, index_front pack_slot s.slots (map pack_berth s.berths ++ s.source ∷ s.base ∷ []) i w there.1, slot_small k s rule i w there.1, refl, tells_of fresh bounded k s rule id c n w at there.1) in (
-      u,
-      keeps,
-      tt,
-      (view_at k s id (loaded c w n f), (word_stays s i w there.1, refl, refl), (steps k s rule).load id n c w f at filer there.1, keep),
-      λ d same. subst (λ (e : Calling). AfterLoad k e n f held (slice_index (words_of s) i) (u, held)) (caller-injective c d same) tells,
-    )
-
 pub load_allowed : AllStepsKeepTheRule → CallersAreFresh → SlotsAreNear → (k : Shape) (slots id : ℕ) (me : SeatState) (word n : ℕ) (f : List ℕ) → MayLoad (load n f) k me word → Allows (Holds k) slots id me word (λ x. x) (told (load n f) me)
-load_allowed steps fresh bounded k slots id me word n f may t holds wide at small =
-    let c : Calling = may.0 in let held : List (ℕ × Kept) = may.1 in let s : Ring = holds.0 in let sp = holds.1 in
-    let mine : SeatState = (caller_view k c, held) in
-    let i : ℕ = n % slot_count k in
-    let same : (spelt s, mine, i) ≡ (t, me, word) = λ i. (record { words = sym sp.0 i; homes = sym sp.1 i; views = sym sp.2 i }, sym may.2 i, sym may.5 i) in
-    let here : get_elem? s.views id ≡ some (caller_view k c) = ap (λ (l : List View). get_elem? l id) (sym sp.2) ∙ at ∙ ap (λ (m : SeatState). some m.0) may.2 in
-    subst (λ (q : T × SeatState × ℕ). Goes k q.0 id q.1 q.2 (slice_index q.0.words q.2) (told (load n f) q.1)) same (load_goes steps fresh bounded k s holds.2 holds.3 id c held n f here may.3)
+load_allowed steps fresh bounded k slots id me word n f may =
+    let c : Calling = may.0 in let held : List (ℕ × Kept) = may.1 in
+    read_allowed (load n f) k slots id me word (n % slot_count k) c held may.2 may.5 (λ s rule keep at.
+    reads k s rule keep id c held n (λ w. loaded c w n f) (λ e found now. AfterLoad k e n f held found now)
+    (λ w there. (steps k s rule).load id n c w f at may.3 there)
+    (λ w there found shows small. (w, shows, small, refl, tells_of fresh bounded k s rule id c n w at there)))
 
 flight_word : (R : ℕ) (slots : List SlotWord) (f : Flight) (w : SlotWord) → FlightFits R slots (Some f) → get_elem? slots (f.number % R) ≡ some w → (f.number ≤ w.number) × (w.number ≡ f.number → w.filled ≡ false → w.cell ≡ f.cell)
 flight_word R slots f w fits at = subst (λ (x : SlotWord). (f.number ≤ x.number) × (x.number ≡ f.number → x.filled ≡ false → x.cell ≡ f.cell)) (at_one slots (f.number % R) fits.0 w fits.1 at) (fits.2, fits.3)

@@ -1,5 +1,5 @@
 -- Steps on the source word and on the base word are steps that the table's rule allows.
-use Rattle.std.proofs.Common.{◌≡◌, ◌≢◌, ◌⊎◌, inl, inr, ℕ, ◌+◌, ◌-◌, ◌<◌, ◌≤◌, ◌^◌, eqb, List, [], ◌∷◌, ◌++◌, map, set, length, Option, Some, None, refl, sym, ap, ◌∙◌, subst, arith}
+use Rattle.std.proofs.Common.{◌≡◌, ◌≢◌, inl, inr, ℕ, ◌+◌, ◌<◌, ◌^◌, eqb, List, set, Option, Some, None, refl, sym, ap, ◌∙◌, subst, arith}
 use Rattle.std.specs.Prelude.{slice_index}
 use mathlib.Core.Option.{some}
 use lib.ListN.{get_elem?}
@@ -16,10 +16,10 @@ use Rattle.ring_core.specs.Core.{held_in}
 use Rattle.ring_core.specs.Steps.{caller_view, sourced, source_at, based, base_at, peeked, view_at}
 use Rattle.ring_core.specs.HeldLaws.{held_is}
 use Rattle.ring_core.specs.RingLaws.{AllStepsKeepTheRule, CallersAreFresh}
-use Rattle.step_table.specs.Packed.{Kept, SeatState, pack_slot, pack_berth, words_of, Holds, HeldFit}
-use Rattle.step_table.specs.Kinds.{source, base, peek, source_place, base_place, MayLoad, MayExchange, IsHeldWord, AfterSource, AfterBase, AfterPeek, told}
+use Rattle.step_table.specs.Packed.{Kept, SeatState, words_of, Holds, HeldFit}
+use Rattle.step_table.specs.Kinds.{source, base, peek, MayLoad, MayExchange, IsHeldWord, AfterSource, AfterBase, AfterPeek, told}
 use Rattle.step_table.proofs.Spelling.{held_place, held_read, held_set, source_at_place, base_at_place}
-use Rattle.step_table.proofs.Ticking.{T, spelt, Goes, caller-injective}
+use Rattle.step_table.proofs.Taking.{T, spelt, Goes, caller-injective}
 
 held_word : (o : Option ℕ) (word : ℕ) → word ≡ word_of o → word < 2 ^ 33 → IsHeldWord word
 held_word None word is low = inl is

@@ -1,5 +1,5 @@
 -- A leaving is a step that the table's rule allows.
-use Rattle.std.proofs.Common.{◌≡◌, ℕ, ◌+◌, List, [], ◌∷◌, map, set, length, refl, sym, ap, ◌∙◌, subst}
+use Rattle.std.proofs.Common.{◌≡◌, ℕ, ◌+◌, List, [], ◌∷◌, map, length, refl, sym, ap, ◌∙◌, subst}
 use Rattle.std.proofs.lemmas.List.{length-map}
 use mathlib.Core.Option.{some}
 use lib.ListN.{get_elem?}
@@ -17,10 +17,10 @@ use Rattle.ring_core.specs.RingLaws.{AllStepsKeepTheRule}
 use Rattle.step_table.specs.Packed.{Kept, SeatState, pack_slot, pack_berth, home_of, Holds, HeldFit}
 use Rattle.step_table.specs.Kinds.{leave, MaySwap, told}
 use Rattle.step_table.proofs.Spelling.{set_middle}
-use Rattle.step_table.proofs.Ticking.{T, spelt, Goes, at_tick, caller-injective}
+use Rattle.step_table.proofs.Taking.{T, spelt, Goes, with_spare, caller-injective}
 
 goes : AllStepsKeepTheRule → (k : Shape) (s : Ring) (rule : RingRule k s) (keep : HeldFit s) (id : ℕ) (c : Calling) (z : Kept) → get_elem? s.views id ≡ some (caller_view k c)
-    → Goes k (spelt s) id (at_tick k c z) (length (map pack_slot s.slots) + c.who) (pack_berth (Home c.spare)) (told leave (at_tick k c z))
+    → Goes k (spelt s) id (with_spare k c z) (length (map pack_slot s.slots) + c.who) (pack_berth (Home c.spare)) (told leave (with_spare k c z))
 goes steps k s rule keep id c z at =
     let rest : List ℕ = s.source ∷ s.base ∷ [] in (
       departed_view k c,
@@ -39,7 +39,7 @@ pub leave_allowed : AllStepsKeepTheRule → (k : Shape) (slots id : ℕ) (me : S
 leave_allowed steps k slots id me word new may t holds wide at small =
     let c : Calling = may.0 in let z : Kept = may.1 in let s : Ring = holds.0 in let sp = holds.1 in
     let place : length (map pack_slot s.slots) + c.who ≡ slot_count k + c.who = ap (λ (n : ℕ). n + c.who) (length-map s.slots pack_slot ∙ holds.2.sized.slots) in
-    let same : (spelt s, at_tick k c z, length (map pack_slot s.slots) + c.who, pack_berth (Home c.spare)) ≡ (t, me, word, new) =
+    let same : (spelt s, with_spare k c z, length (map pack_slot s.slots) + c.who, pack_berth (Home c.spare)) ≡ (t, me, word, new) =
     λ i. (record { words = sym sp.0 i; homes = sym sp.1 i; views = sym sp.2 i }, sym may.2 i, (place ∙ sym may.5) i, sym may.6 i) in
     let here : get_elem? s.views id ≡ some (caller_view k c) = ap (λ (l : List View). get_elem? l id) (sym sp.2) ∙ at ∙ ap (λ (m : SeatState). some m.0) may.2 in
     subst (λ (q : T × SeatState × ℕ × ℕ). Goes k q.0 id q.1 q.2 q.3 (told leave q.1)) same (goes steps k s holds.2 holds.3 id c z here)

@@ -1,7 +1,9 @@
 pub mod Telling
 pub mod Spelling
-pub mod Ticking
+pub mod Taking
+pub mod Reading
 pub mod Filing
+pub mod Looking
 pub mod Enlisting
 pub mod Leaving
 pub mod Holding

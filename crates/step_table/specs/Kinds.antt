@@ -1,7 +1,9 @@
 -- The kinds of step on the table: where each may be made, and what it tells its caller.
-use Rattle.std.specs.Prelude.{◌≡◌, ◌≢◌, ◌⊎◌, ℕ, ◌+◌, ◌%◌, ◌<◌, ◌≤◌, ◌^◌, List, [], ◌∷◌, slice_get, Option, Some, None, Result, Ok, Err, true}
+use Rattle.std.specs.Prelude.{◌≡◌, ◌≢◌, ◌⊎◌, ℕ, ◌+◌, ◌%◌, ◌<◌, ◌≤◌, ◌^◌, List, [], ◌∷◌, slice_get, Some, None, Result, Ok, Err, true}
 use Rattle.frame_codec.specs.declared.item.Item.TheVariants.{Frame}
 use Rattle.playout.specs.declared.call.Call.{Call}
+use Rattle.ring_core.specs.declared.player_steps.Move.{Move}
+use Rattle.ring_core.specs.declared.player_steps.Glance.{Glance}
 use Rattle.ring_core.specs.declared.views.Shape.{Shape}
 use Rattle.ring_core.specs.declared.views.Known.{Known}
 use Rattle.ring_core.specs.declared.views.Flight.{Flight}
@@ -15,7 +17,7 @@ use Rattle.ring_core.specs.declared.words.SlotWord.{SlotWord}
 use Rattle.ring_core.specs.declared.words.Berth.TheVariants.{Fresh, Out, Home}
 use Rattle.playout.specs.Machine.{start, held_or}
 use Rattle.ring_core.specs.Ring.{Has, slot_count, word_of}
-use Rattle.ring_core.specs.Steps.{caller_view, position_of, ticked, taken, free_word, full_word, loaded, published, pool_view, without, only, newcomer, told_by, note_view, departed_view, gone_view, with_list, sourced, based, peeked}
+use Rattle.ring_core.specs.Steps.{caller_view, position_of, moved, taken, ahead_of, glanced, free_word, full_word, loaded, published, pool_view, without, only, newcomer, told_by, note_view, departed_view, gone_view, with_list, sourced, based, peeked}
 use Rattle.ring_core.specs.Core.{held_in}
 use Rattle.step_table.specs.Packed.{Kept, SeatState, Fits, pack_slot, pack_berth}
 
@@ -25,7 +27,8 @@ pub data StepKind : Type 0 where
   -- of this number, with this frame
   load : ℕ → List ℕ → StepKind
   publish : StepKind
-  tick : StepKind
+  -- a tick or a retire
+  move : Move → StepKind
   leave : StepKind
   -- the right to this caller goes to a new seat
   split : ℕ → StepKind
@@ -37,6 +40,8 @@ pub data StepKind : Type 0 where
   source : ℕ → StepKind
   base : ℕ → StepKind
   peek : StepKind
+  -- a look or a hold
+  glance : Glance → StepKind
 
 -- the places of the source word and of the base word
 abbrev pub source_place : Shape → ℕ
@@ -47,7 +52,7 @@ base_place k = slot_count k + (k.filers + 2)
 
 -- a swap of a word to a new one, by a seat that may make this kind of step
 abbrev pub MaySwap : StepKind → Shape → SeatState → ℕ → ℕ → Type 0
-MaySwap tick k me word new =
+MaySwap (move v) k me word new =
     (c : Calling) × (z : Kept)
     × (me ≡ (caller_view k c, (c.spare, z) ∷ [])) × (c.who ≡ k.filers) × (position_of c < 2 ^ 33)
     × (word ≡ position_of c % slot_count k) × (new ≡ pack_slot (free_word (position_of c + slot_count k) c.spare))
@@ -62,6 +67,8 @@ MaySwap _ k me word new = ⊥
 abbrev pub MayLoad : StepKind → Shape → SeatState → ℕ → Type 0
 MayLoad (load n f) k me word = (c : Calling) × (held : List (ℕ × Kept)) × (me ≡ (caller_view k c, held)) × (c.who < k.filers) × (c.flight ≡ None) × (word ≡ n % slot_count k)
 MayLoad peek k me word = (c : Calling) × (held : List (ℕ × Kept)) × (me ≡ (caller_view k c, held)) × (c.who ≡ k.filers) × (word ≡ base_place k)
+MayLoad (glance v) k me word =
+    (c : Calling) × (held : List (ℕ × Kept)) × (me ≡ (caller_view k c, held)) × (c.who ≡ k.filers) × (ahead_of v < slot_count k) × (word ≡ (position_of c + ahead_of v) % slot_count k)
 MayLoad _ k me word = ⊥
 
 -- a compare-exchange of a word from an old one to a new one
@@ -78,9 +85,9 @@ MayExchange (base x) k me word old new =
     × (me ≡ (caller_view k c, held)) × (c.who < k.filers) × (c.flight ≡ None) × (x < 2 ^ 32) × (word ≡ base_place k) × (old ≡ 0) × (new ≡ word_of (Some x))
 MayExchange _ k me word old new = ⊥
 
--- a tick by this caller found the number: it spells a slot word of the caller's position, and the seat has that word's cell. What the caller knew to be accepted there is played, and a filled word has a frame in its cell
-abbrev pub AfterTick : Shape → Calling → ℕ → SeatState → Type 0
-AfterTick k c found now = (w : SlotWord) × (y : Kept) × (found ≡ pack_slot w) × Fits w × (now ≡ (caller_view k (ticked c w y), (w.cell, y) ∷ []))
+-- a tick or a retire by this caller found the number: it spells a slot word of the caller's position, and the seat has that word's cell. What the caller knew to be accepted there is taken, and a filled word has a frame in its cell
+abbrev pub AfterMove : Shape → Calling → Move → ℕ → SeatState → Type 0
+AfterMove k c v found now = (w : SlotWord) × (y : Kept) × (found ≡ pack_slot w) × Fits w × (now ≡ (caller_view k (moved c v w y), (w.cell, y) ∷ []))
     × ((f : List ℕ) → Has c.known.pairs (position_of c) f → taken w.filled y ≡ Frame f) × (w.number ≡ position_of c) × (w.filled ≡ true → (f : List ℕ) × (y ≡ Some f))
 
 -- what the word of this number's slot has to do with what the caller knew
@@ -112,6 +119,11 @@ AfterSource k c x held found now = IsHeldWord found × (now ≡ (caller_view k (
 abbrev pub AfterBase : Shape → Calling → ℕ → List (ℕ × Kept) → ℕ → SeatState → Type 0
 AfterBase k c x held found now = IsHeldWord found × (now ≡ (caller_view k (based c x (held_or (held_in found) x)), held)) × ((y : ℕ) → c.known.base ≡ Some y → found ≡ word_of (Some y))
 
+-- a look or a hold by this caller found the number: it spells the slot word of the number so many ahead of the caller's position. What the caller knew to be accepted there shows as filled
+abbrev pub AfterGlance : Shape → Calling → Glance → List (ℕ × Kept) → ℕ → SeatState → Type 0
+AfterGlance k c v held found now = (w : SlotWord) × (found ≡ pack_slot w) × Fits w × (now ≡ (caller_view k (glanced c v w), held))
+    × (w.number ≡ position_of c + ahead_of v) × ((f : List ℕ) → Has c.known.pairs (position_of c + ahead_of v) f → w.filled ≡ true)
+
 abbrev pub AfterPeek : Shape → Calling → List (ℕ × Kept) → ℕ → SeatState → Type 0
 AfterPeek k c held found now = IsHeldWord found × (now ≡ (caller_view k (peeked c (held_in found)), held)) × ((y : ℕ) → c.known.base ≡ Some y → found ≡ word_of (Some y))
 
@@ -120,11 +132,12 @@ abbrev pub told : StepKind → SeatState → ℕ → SeatState → Type 0
 told (enlist who) me found now = (cell : ℕ) × (y : Kept) × (found ≡ pack_berth (Fresh cell)) × (cell < 32768) × (now ≡ (caller_view me.0.shape (newcomer who cell), (cell, y) ∷ []))
 told (load n f) me found now = (c : Calling) → me.0.role ≡ Caller c → AfterLoad me.0.shape c n f me.1 found now
 told publish me found now = (c : Calling) (f : Flight) → me.0.role ≡ Caller c → c.flight ≡ Some f → AfterPublish me.0.shape c f me.1 found now
-told tick me found now = (c : Calling) → me.0.role ≡ Caller c → AfterTick me.0.shape c found now
+told (move v) me found now = (c : Calling) → me.0.role ≡ Caller c → AfterMove me.0.shape c v found now
 told leave me found now = (c : Calling) → me.0.role ≡ Caller c → now ≡ (departed_view me.0.shape c, [])
 told (source x) me found now = (c : Calling) → me.0.role ≡ Caller c → AfterSource me.0.shape c x me.1 found now
 told (base x) me found now = (c : Calling) → me.0.role ≡ Caller c → AfterBase me.0.shape c x me.1 found now
 told peek me found now = (c : Calling) → me.0.role ≡ Caller c → AfterPeek me.0.shape c me.1 found now
+told (glance v) me found now = (c : Calling) → me.0.role ≡ Caller c → AfterGlance me.0.shape c v me.1 found now
 told _ me found now = ⊥
 
 -- a seat that may be cut in two

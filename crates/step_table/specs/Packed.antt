@@ -1,5 +1,5 @@
 -- The ring as the words, the values at home and the views of a table.
-use Rattle.std.specs.Prelude.{◌≡◌, ℕ, ◌+◌, ◌*◌, ◌<◌, ◌≤◌, ◌^◌, List, [], ◌∷◌, ◌++◌, map, replicate, Option, None, Bool, true, false}
+use Rattle.std.specs.Prelude.{◌≡◌, ℕ, ◌+◌, ◌*◌, ◌<◌, ◌≤◌, ◌^◌, List, [], ◌∷◌, ◌++◌, map, Option, Bool, true, false}
 use mathlib.Core.Option as maybe
 use Rattle.atomic_table.specs.Table.{State, Me}
 use Rattle.atomic_table.specs.Seated.{TableId}

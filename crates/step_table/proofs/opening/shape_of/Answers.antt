@@ -1,9 +1,7 @@
-use Rattle.std.proofs.Common.{rules, ◌≡◌, ℕ, List, length, ◌+◌, ◌-◌, ◌*◌, ◌^◌, ◌%◌, ◌<◌, ◌≤◌, sym, ap, ◌∙◌, subst, arith}
+use Rattle.std.proofs.Common.{ℕ, ◌+◌, ◌-◌, ◌<◌, ◌≤◌, subst, arith}
 use Rattle.std.specs.Prelude.{slice_index}
 use Rattle.ring_core.specs.declared.views.Shape.{Shape}
-use Rattle.ring_core.specs.Ring.{slot_count}
-use Rattle.step_table.specs.Packed.{IsOpening}
-use Rattle.step_table.proofs.Starting.{shifted, more_slots, all_slots, fewer_slots, all_there, few_cells}
+use Rattle.step_table.proofs.Starting.{shifted, more_slots, fewer_slots, all_there, few_cells}
 use Rattle.step_table.proofs.opening.shape_of.Goals as goal
 
 pub bounds-words-g : goal.bounds-words-g

@@ -1,4 +1,4 @@
-use Rattle.std.proofs.Common.{◌-◌, ◌≤◌, ◌≡◌}
+use Rattle.std.proofs.Common.{◌-◌, ◌≤◌}
 use Rattle.ring_core.specs.declared.views.Shape.{Shape}
 use Rattle.step_table.specs.Packed.{IsOpening}
 use Rattle.step_table.proofs.opening.shape_of.Given as goal

@@ -1,8 +1,8 @@
-use Rattle.std.proofs.Common.{◌≡◌, ◌∙◌, ◌∷◌, [], ◌++◌, ℕ, Some, ap, subst}
+use Rattle.std.proofs.Common.{◌≡◌, ◌∙◌, ◌∷◌, [], ◌++◌, ℕ, Some, refl, ap, subst}
 use Rattle.playout.specs.declared.call.Call.TheVariants.{PeekCall}
 use Rattle.slot_ring.specs.Seen.{PassView, PeekSays}
 use Rattle.slot_ring.proofs.Grows.{grown, knows}
-use Rattle.slot_ring.proofs.Callers.{after_peek, position_stays}
+use Rattle.slot_ring.proofs.Players.{after_peek, position_stays}
 use Rattle.slot_ring.proofs.ring.SlotRing.peek.Goals as goal
 
 pub invariant_of-pass : goal.invariant_of-pass
@@ -24,7 +24,7 @@ pub returns-clause-position : goal.returns-clause-position
 returns-clause-position g c =
     let me = c.pass.inside.seat.me in let now = c.load-found.new.seat.me in
     let r = after_peek me now c.pass.inside.spare c.pass.inside.position _ _ c.pass.invariant c.load-found.ensures.told c.value_in.ensures in
-    position_stays c.args.pass.now.list _ c.value_in.result (r.went.list ∙ ap (λ (p : PassView). p.list ++ PeekCall c.value_in.result ∷ []) c.pass.view_is)
+    position_stays c.args.pass.now.list _ (PeekCall c.value_in.result) refl (r.went.list ∙ ap (λ (p : PassView). p.list ++ PeekCall c.value_in.result ∷ []) c.pass.view_is)
 
 pub returns-clause-fresh : goal.returns-clause-fresh
 returns-clause-fresh g c =

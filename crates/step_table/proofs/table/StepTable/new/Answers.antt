@@ -1,12 +1,11 @@
-use Rattle.std.proofs.Common.{rules, ◌≡◌, ◌+◌, ◌^◌, ◌<◌, [], ◌∷◌, ℕ, List, length, map, refl, sym, ap, ◌∙◌, subst, arith}
+use Rattle.std.proofs.Common.{◌≡◌, ◌+◌, ◌^◌, ℕ, List, length, map, refl, sym, ap, ◌∙◌, subst, arith}
 use Rattle.std.specs.Prelude.{replicate}
 use mathlib.Core.Option as maybe
 use Rattle.atomic_table.specs.Table.{opening}
 use Rattle.ring_core.specs.declared.views.Shape.{Shape}
 use Rattle.ring_core.specs.Ring.{slot_count}
 use Rattle.ring_core.specs.Opening.{opening_ring}
-use Rattle.step_table.specs.Packed.{Kept, Holds, first_view, IsOpening}
-use Rattle.step_table.specs.Inside.{IsLaid}
+use Rattle.step_table.specs.Packed.{Holds, first_view, IsOpening}
 use Rattle.step_table.proofs.Starting.{no_frame, empty_homes, length-words}
 use Rattle.step_table.proofs.table.StepTable.new.Goals as goal
 
