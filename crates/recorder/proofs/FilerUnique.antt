@@ -15,7 +15,7 @@ use Rattle.recorder.specs.declared.events.FilerEvent.{FilerEvent}
 use Rattle.recorder.specs.declared.events.FilerEvent.TheVariants.{Source, Base, File, Refused, Rtcp, Stranger, Empty}
 use Rattle.recorder.specs.Fields.{judged, judged_behind}
 use Rattle.recorder.specs.Files.{end_mark, event_limit, is_signed, fault_by}
-use Rattle.recorder.specs.Filing.{reply_kind, reply_text, filer_event_text, filer_head_text, filer_head_fault, is_code, has_detail, ReplyTells, FiledFits, RefusedFits, FilerFits, IsFilerHead, filer_width, pair_fault, filed_fault, ahead_passes, ahead_fault, refused_fault, reply_fault, filer_field_fault, filer_fault_at}
+use Rattle.recorder.specs.Filing.{reply_kind, reply_text, filer_event_text, filer_head_text, filer_head_fault, is_code, has_detail, ReplyTells, FiledFits, RefusedFits, FilerFits, filer_width, filed_fault, ahead_passes, ahead_fault, refused_fault, reply_fault, filer_field_fault, filer_fault_at}
 use Rattle.recorder.specs.Heads.{Heading, IsHeading, head_text, filer_magic}
 use Rattle.recorder.specs.Journals.{FilerRecord, FilersHaveNoFault, FilersHaveOneFault}
 use Rattle.recorder.proofs.OneText.{AllFit, behind, no_fault, none_some, one_fault, some_same}

@@ -42,9 +42,9 @@ pub fits-more : {E : Type 0} (P : E → Type 0) (es : List E) (e : E) → AllByR
 fits-more P [] e all p = (p, tt)
 fits-more P (x ∷ es) e all p = (all.0, fits-more P es e all.1 p)
 
-pub plays-more : (opening : Bool) (es : List PlayEvent) (e : PlayEvent) → AllPlayFit opening es → PlayFits (opening_behind opening es) e → AllPlayFit opening (es ++ e ∷ [])
-plays-more opening [] e all p = (p, tt)
-plays-more opening (x ∷ es) e all p = (all.0, plays-more (may_open x) es e all.1 p)
+pub plays-more : (g : ℕ) (opening : Bool) (es : List PlayEvent) (e : PlayEvent) → AllPlayFit g opening es → PlayFits g (opening_behind opening es) e → AllPlayFit g opening (es ++ e ∷ [])
+plays-more g opening [] e all p = (p, tt)
+plays-more g opening (x ∷ es) e all p = (all.0, plays-more g (may_open x) es e all.1 p)
 
 pub opening-more : (opening : Bool) (es : List PlayEvent) (e : PlayEvent) → opening_behind opening (es ++ e ∷ []) ≡ may_open e
 opening-more opening [] e = refl

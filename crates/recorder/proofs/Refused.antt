@@ -5,17 +5,14 @@ use Rattle.std.specs.List.{flat_map}
 use Rattle.std.specs.Io.KnownBytes.{Consumes}
 use Rattle.std.proofs.KnownBytes.{Consumes-trans}
 use Rattle.gate_io.specs.Flow.{ConsumesFewer}
-use Rattle.recorder.specs.declared.events.FilerEvent.{FilerEvent}
-use Rattle.recorder.specs.declared.events.PlayEvent.{PlayEvent}
 use Rattle.recorder.specs.declared.fault.RecordFault.{RecordFault}
 use Rattle.recorder.specs.declared.fault.RecordEnd.{RecordEnd}
 use Rattle.recorder.specs.declared.fault.RecordEnd.TheVariants.{Fault, ReadFailed}
 use Rattle.recorder.specs.declared.fault.Ending.{Ending}
-use Rattle.recorder.specs.declared.filer_head.FilerHead.{FilerHead}
 use Rattle.recorder.specs.declared.refusal.JournalRefusal.{JournalRefusal}
 use Rattle.recorder.specs.declared.refusal.JournalRefusal.TheVariants.{End, OutOfMemory}
 use Rattle.recorder.specs.Filing.{filer_event_text, filer_fault_at, filer_head_fault, filer_head_text}
-use Rattle.recorder.specs.Heads.{Heading, head_fault, head_text, play_magic}
+use Rattle.recorder.specs.Heads.{head_fault, head_text, play_magic}
 use Rattle.recorder.specs.Journals.{FilerRecord, FilerRecordFits, HasFilerFault, IsFilerJournal, PlayerRecord, PlayerRecordFits, HasPlayerFault, IsPlayerJournal, RefusesByFirst, RefusesByHead, filer_text, opening_behind, player_text}
 use Rattle.recorder.specs.Play.{play_event_text, play_fault_at}
 use Rattle.recorder.specs.Reader.{IsWithin, Tells}
@@ -69,17 +66,17 @@ player_head_refused None f told = tt
 player_head_refused (Some x) f told = inl told
 
 pub player_refused : (input left : Option (List ℕ)) (j : PlayerRecord) (opening : Bool) (at count : ℕ) (f : RecordFault) → PlayerRecordFits j → opening ≡ opening_behind true j.events
-    → Sofar play_event_text (head_text play_magic j.head) at count input left j.events → IfSome left (λ octets. play_fault_at opening count at octets ≡ Some f) → IfSome input (λ octets. HasPlayerFault octets f)
+    → Sofar play_event_text (head_text play_magic j.head) at count input left j.events → IfSome left (λ octets. play_fault_at j.head.g opening count at octets ≡ Some f) → IfSome input (λ octets. HasPlayerFault octets f)
 player_refused input left j opening at count f fits open' s fault =
-    of_input input left (head_text play_magic j.head ++ flat_map play_event_text j.events) (λ octets. play_fault_at opening count at octets ≡ Some f) (λ octets. HasPlayerFault octets f) s.taken fault
+    of_input input left (head_text play_magic j.head ++ flat_map play_event_text j.events) (λ octets. play_fault_at j.head.g opening count at octets ≡ Some f) (λ octets. HasPlayerFault octets f) s.taken fault
     (λ octets rest text here. inr (
       j,
       record {
         fits = fits;
         rest = rest;
         text = text;
-        fault = subst (λ (b : Bool). play_fault_at b (length j.events) (length (head_text play_magic j.head ++ flat_map play_event_text j.events)) rest ≡ Some f) open'
-            (subst (λ (n : ℕ). play_fault_at opening n (length (head_text play_magic j.head ++ flat_map play_event_text j.events)) rest ≡ Some f) s.counted (subst (λ (n : ℕ). play_fault_at opening count n rest ≡ Some f) s.place here));
+        fault = subst (λ (b : Bool). play_fault_at j.head.g b (length j.events) (length (head_text play_magic j.head ++ flat_map play_event_text j.events)) rest ≡ Some f) open'
+            (subst (λ (n : ℕ). play_fault_at j.head.g opening n (length (head_text play_magic j.head ++ flat_map play_event_text j.events)) rest ≡ Some f) s.counted (subst (λ (n : ℕ). play_fault_at j.head.g opening count n rest ≡ Some f) s.place here));
       },
     ))
 

@@ -1,16 +1,15 @@
 -- Whole journals: what is read of them, and what of octets that are none.
-use Rattle.std.specs.Prelude.{ℕ, ◌+◌, ◌≡◌, ◌≤◌, ◌<◌, ◌⊎◌, List, [], ◌∷◌, ◌++◌, length, take, Bool, true, Option, Some, Ok, Err, IsOk, Result}
+use Rattle.std.specs.Prelude.{ℕ, ◌≡◌, ◌≤◌, ◌<◌, ◌⊎◌, List, [], ◌∷◌, ◌++◌, length, take, Bool, true, Option, Some, Err, IsOk, Result}
 use Rattle.std.specs.List.{flat_map, AllByRecursion}
 use Rattle.gate_base.specs.Faults.{Rose}
 use Rattle.recorder.specs.declared.events.FilerEvent.{FilerEvent}
 use Rattle.recorder.specs.declared.events.PlayEvent.{PlayEvent}
 use Rattle.recorder.specs.declared.fault.RecordFault.{RecordFault}
 use Rattle.recorder.specs.declared.fault.RecordEnd.TheVariants.{Fault, ReadFailed}
-use Rattle.recorder.specs.declared.filer_head.FilerHead.{FilerHead}
 use Rattle.recorder.specs.declared.refusal.JournalRefusal.{JournalRefusal}
 use Rattle.recorder.specs.declared.refusal.JournalRefusal.TheVariants.{End, OutOfMemory}
 use Rattle.recorder.specs.Files.{end_mark, event_limit}
-use Rattle.recorder.specs.Filing.{FilerFits, IsFilerHead, filer_event_text, filer_fault_at, filer_head_fault, filer_head_text}
+use Rattle.recorder.specs.Filing.{FilerFits, filer_event_text, filer_fault_at, filer_head_fault, filer_head_text}
 use Rattle.recorder.specs.Heads.{Heading, IsHeading, head_fault, head_text, play_magic}
 use Rattle.recorder.specs.Play.{AllPlayFit, may_open, play_event_text, play_fault_at}
 
@@ -63,7 +62,7 @@ pub record PlayerRecord : Type 0 where
 -- All of it is in its ranges, and in order: Idle events come first, then at most one Base, then the others.
 pub record PlayerRecordFits (j : PlayerRecord) : Type 0 where
   pub head : IsHeading j.head
-  pub events : AllPlayFit true j.events
+  pub events : AllPlayFit j.head.g true j.events
   pub few : length j.events ≤ event_limit
 
 -- the octets of the head and the events
@@ -89,7 +88,7 @@ pub record PlayerFaultAfter (octets : List ℕ) (j : PlayerRecord) (f : RecordFa
   pub fits : PlayerRecordFits j
   pub rest : List ℕ
   pub text : octets ≡ player_front j ++ rest
-  pub fault : play_fault_at (opening_behind true j.events) (length j.events) (length (player_front j)) rest ≡ Some f
+  pub fault : play_fault_at j.head.g (opening_behind true j.events) (length j.events) (length (player_front j)) rest ≡ Some f
 
 -- the first fault of octets that are no player's journal: of the head, or after some events
 abbrev pub HasPlayerFault : List ℕ → RecordFault → Type 0

@@ -1,11 +1,11 @@
 -- What is counted of replies and of items.
-use Rattle.std.specs.Prelude.{ℕ, ◌+◌, ◌-◌, ◌^◌, min, List, [], ◌∷◌, count_by, Bool, true, false, Option, Some, None}
+use Rattle.std.specs.Prelude.{ℕ, ◌+◌, ◌-◌, ◌^◌, min, List, [], ◌∷◌, count_by, Bool, true, false, Some, None}
 use Rattle.frame_codec.specs.declared.item.Item.{Item}
 use Rattle.frame_codec.specs.declared.item.Item.TheVariants.{Idle, Frame, Erasure}
 use Rattle.playout.specs.declared.reply.FileReply.{FileReply}
 use Rattle.playout.specs.declared.reply.FileReply.TheVariants.{Accepted, Duplicate, Late, Beyond}
 use Rattle.playout.specs.declared.call.Call.{Call}
-use Rattle.playout.specs.declared.call.Call.TheVariants.{FileCall, SourceCall, BaseCall, PeekCall, TickCall}
+use Rattle.playout.specs.declared.call.Call.TheVariants.{FileCall, SourceCall, BaseCall, PeekCall, TickCall, LookCall, HoldCall, RetireCall}
 use Rattle.recorder.specs.declared.tally.Tally.{Tally}
 use Rattle.recorder.specs.declared.tally.PlayTally.{PlayTally}
 
@@ -61,46 +61,63 @@ reply_counted t Duplicate = record t { duplicate = capped (t.duplicate + 1) }
 reply_counted t (Late ahead) = record t { late = capped (t.late + 1) }
 reply_counted t (Beyond ahead) = record t { beyond = capped (t.beyond + 1) }
 
-abbrev pub is_frame : Item → Bool
-is_frame Idle = false
-is_frame (Frame f) = true
-is_frame Erasure = false
+-- what is counted of the player's calls: ticks, those of them that play a frame or an erasure, peeks that see no base, holds that let a beat
+-- pass, and retires
+abbrev pub is_tick : Call → Bool
+is_tick (TickCall item) = true
+is_tick _ = false
 
-abbrev pub is_erasure : Item → Bool
-is_erasure Idle = false
-is_erasure (Frame f) = false
-is_erasure Erasure = true
+abbrev pub is_frame : Call → Bool
+is_frame (TickCall (Frame f)) = true
+is_frame _ = false
 
-abbrev pub is_idle : Item → Bool
-is_idle Idle = true
-is_idle (Frame f) = false
-is_idle Erasure = false
+abbrev pub is_erasure : Call → Bool
+is_erasure (TickCall Erasure) = true
+is_erasure _ = false
 
--- a tick plays a frame or an erasure
-abbrev pub is_tick : Item → Bool
-is_tick Idle = false
-is_tick (Frame f) = true
-is_tick Erasure = true
+abbrev pub is_idle : Call → Bool
+is_idle (PeekCall None) = true
+is_idle _ = false
 
--- the counts of a list of items
-abbrev pub play_tally : List Item → PlayTally
-play_tally items = record {
-  ticks = capped (count_by is_tick items);
-  frames = capped (count_by is_frame items);
-  erasures = capped (count_by is_erasure items);
-  idle = capped (count_by is_idle items);
+abbrev pub is_held : Call → Bool
+is_held (HoldCall true) = true
+is_held _ = false
+
+abbrev pub is_retired : Call → Bool
+is_retired (RetireCall item) = true
+is_retired _ = false
+
+-- the counts of a list of calls
+abbrev pub play_tally : List Call → PlayTally
+play_tally calls = record {
+  ticks = capped (count_by is_tick calls);
+  frames = capped (count_by is_frame calls);
+  erasures = capped (count_by is_erasure calls);
+  idle = capped (count_by is_idle calls);
+  held = capped (count_by is_held calls);
+  retired = capped (count_by is_retired calls);
 }
 
 abbrev pub no_plays : PlayTally
-no_plays = record { ticks = 0; frames = 0; erasures = 0; idle = 0 }
+no_plays = record { ticks = 0; frames = 0; erasures = 0; idle = 0; held = 0; retired = 0 }
 
--- one item more
-abbrev pub item_counted : PlayTally → Item → PlayTally
-item_counted t Idle = record t { idle = capped (t.idle + 1) }
-item_counted t (Frame f) = record t { ticks = capped (t.ticks + 1); frames = capped (t.frames + 1) }
-item_counted t Erasure = record t { ticks = capped (t.ticks + 1); erasures = capped (t.erasures + 1) }
+-- one more of a count, where a call is one of those
+abbrev pub raised : Bool → ℕ → ℕ
+raised true n = capped (n + 1)
+raised false n = n
 
--- what a call of the player gives to be heard: an idle beat, or the item of a tick
+-- one call more
+abbrev pub call_counted : PlayTally → Call → PlayTally
+call_counted t c = record {
+  ticks = raised (is_tick c) t.ticks;
+  frames = raised (is_frame c) t.frames;
+  erasures = raised (is_erasure c) t.erasures;
+  idle = raised (is_idle c) t.idle;
+  held = raised (is_held c) t.held;
+  retired = raised (is_retired c) t.retired;
+}
+
+-- what a call of the player gives to be heard: an idle beat, an erasure where a beat passes, or the item of a tick
 abbrev pub call_items : Call → List Item
 call_items (FileCall n f reply) = []
 call_items (SourceCall x held) = []
@@ -108,6 +125,10 @@ call_items (BaseCall x held) = []
 call_items (PeekCall None) = Idle ∷ []
 call_items (PeekCall (Some base)) = []
 call_items (TickCall item) = item ∷ []
+call_items (LookCall ahead filled) = []
+call_items (HoldCall true) = Erasure ∷ []
+call_items (HoldCall false) = []
+call_items (RetireCall item) = []
 
 -- how a frame was answered in a call of a filer
 abbrev pub call_replies : Call → List FileReply
@@ -116,3 +137,6 @@ call_replies (SourceCall x held) = []
 call_replies (BaseCall x held) = []
 call_replies (PeekCall held) = []
 call_replies (TickCall item) = []
+call_replies (LookCall ahead filled) = []
+call_replies (HoldCall held) = []
+call_replies (RetireCall item) = []

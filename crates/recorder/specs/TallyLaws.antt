@@ -1,14 +1,12 @@
--- One reply or item more is counted once more.
-use Rattle.std.proofs.Common.{◌≡◌, ℕ, ◌+◌, List, [], ◌∷◌, ◌++◌, Bool, cond, refl, arith}
+-- One reply or call more is counted once more.
+use Rattle.std.proofs.Common.{◌≡◌, ℕ, ◌+◌, List, [], ◌∷◌, ◌++◌, Bool, true, false, cond, refl, arith}
 use Rattle.std.specs.Prelude.{count_by}
 use Rattle.std.proofs.lemmas.List.Sums.{sum_by-append, sum_by-cons}
-use Rattle.frame_codec.specs.declared.item.Item.{Item}
-use Rattle.frame_codec.specs.declared.item.Item.TheVariants.{Idle, Frame, Erasure}
+use Rattle.playout.specs.declared.call.Call.{Call}
 use Rattle.playout.specs.declared.reply.FileReply.{FileReply}
 use Rattle.playout.specs.declared.reply.FileReply.TheVariants.{Accepted, Duplicate, Late, Beyond}
 use Rattle.recorder.specs.declared.tally.Tally.{Tally}
-use Rattle.recorder.specs.declared.tally.PlayTally.{PlayTally}
-use Rattle.recorder.specs.Tallies.{capped, is_accepted, is_duplicate, is_late, is_beyond, reply_tally, reply_counted, is_tick, is_frame, is_erasure, is_idle, play_tally, item_counted}
+use Rattle.recorder.specs.Tallies.{capped, is_accepted, is_duplicate, is_late, is_beyond, reply_tally, reply_counted, is_tick, is_frame, is_erasure, is_idle, is_held, is_retired, play_tally, call_counted, raised}
 
 -- one element more
 count-more : {A : Type 0} (p : A → Bool) (xs : List A) (x : A) → count_by p (xs ++ x ∷ []) ≡ count_by p xs + cond (p x) 1 0
@@ -23,16 +21,23 @@ on m n is = omega arith
 stays : (m n : ℕ) → m ≡ n + 0 → capped m ≡ capped n
 stays m n is = omega arith
 
-same_plays : (t u : PlayTally) → t.ticks ≡ u.ticks → t.frames ≡ u.frames → t.erasures ≡ u.erasures → t.idle ≡ u.idle → t ≡ u
-same_plays t u p q r s = λ i. record { ticks = p i; frames = q i; erasures = r i; idle = s i }
+-- where an element is one of those that are counted, or not
+counted-more : {A : Type 0} (p : A → Bool) (xs : List A) (x : A) → capped (count_by p (xs ++ x ∷ [])) ≡ raised (p x) (capped (count_by p xs))
+counted-more {A} p xs x = raised_by _ (count_by p xs) (p x) (count-more p xs x)
+  where
+    raised_by : (m n : ℕ) (b : Bool) → m ≡ n + cond b 1 0 → capped m ≡ raised b (capped n)
+    raised_by m n true is = on m n is
+    raised_by m n false is = stays m n is
 
-pub play_tally-more : (items : List Item) (item : Item) → play_tally (items ++ item ∷ []) ≡ item_counted (play_tally items) item
-play_tally-more items Idle =
-    same_plays _ _ (stays _ _ (count-more is_tick items Idle)) (stays _ _ (count-more is_frame items Idle)) (stays _ _ (count-more is_erasure items Idle)) (on _ _ (count-more is_idle items Idle))
-play_tally-more items (Frame f) =
-    same_plays _ _ (on _ _ (count-more is_tick items (Frame f))) (on _ _ (count-more is_frame items (Frame f))) (stays _ _ (count-more is_erasure items (Frame f))) (stays _ _ (count-more is_idle items (Frame f)))
-play_tally-more items Erasure =
-    same_plays _ _ (on _ _ (count-more is_tick items Erasure)) (stays _ _ (count-more is_frame items Erasure)) (on _ _ (count-more is_erasure items Erasure)) (stays _ _ (count-more is_idle items Erasure))
+pub play_tally-more : (calls : List Call) (call : Call) → play_tally (calls ++ call ∷ []) ≡ call_counted (play_tally calls) call
+play_tally-more calls call = λ i. record {
+  ticks = counted-more is_tick calls call i;
+  frames = counted-more is_frame calls call i;
+  erasures = counted-more is_erasure calls call i;
+  idle = counted-more is_idle calls call i;
+  held = counted-more is_held calls call i;
+  retired = counted-more is_retired calls call i;
+}
 
 same_replies : (t u : Tally) → t.datagrams ≡ u.datagrams → t.accepted ≡ u.accepted → t.duplicate ≡ u.duplicate → t.late ≡ u.late → t.beyond ≡ u.beyond
     → t.refused ≡ u.refused → t.stranger ≡ u.stranger → t.rtcp ≡ u.rtcp → t.empty ≡ u.empty → t ≡ u

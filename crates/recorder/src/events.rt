@@ -35,6 +35,18 @@ pub enum PlayEvent {
     Erasure,
     /// A tick that played this frame.
     Frame(Frame33),
+    /// A beat that passed at the same number, for which no frame had come.
+    Held,
+    /// No beat was let pass: a frame waited for the next number.
+    Found,
+    /// No frame waited so many numbers ahead of the next one.
+    LookFree { ahead: u32 },
+    /// A frame waited so many numbers ahead of the next one.
+    LookFilled { ahead: u32 },
+    /// A number for which no frame came was left out.
+    RetiredErasure,
+    /// A number was left out, with this frame.
+    RetiredFrame(Frame33),
 }
 
 /// What a filer said of its packet, and what was held then.

@@ -1,6 +1,7 @@
 //! Scripts and journals: octets read as events with the first fault and its place, and events written as octets.
 #![tactic(auto)]
 
+mod calls;
 mod events;
 mod fault;
 mod fields;
@@ -25,6 +26,7 @@ mod script_reader;
 mod script_writer;
 mod tally;
 
+pub use calls::{call_item, play_event_of};
 pub use events::{Asked2, FilerEvent, PlayEvent, ScriptEvent};
 pub use fault::{Ending, RecordEnd, RecordFault};
 pub use filer_head::FilerHead;
@@ -38,7 +40,7 @@ pub use laws::{
 };
 pub use packet::Packet;
 pub use play_reader::PlayReader;
-pub use play_writer::{play_event_of, write_end, write_play, write_play_head};
+pub use play_writer::{write_end, write_play, write_play_head};
 pub use player_journal::PlayerJournal;
 pub use refusal::JournalRefusal;
 pub use script_reader::ScriptReader;

@@ -4,7 +4,7 @@ ghost use Rattle.std.specs.Io.KnownBytes.{Consumes};
 ghost use Rattle.gate_base.specs.Faults.{Rose};
 ghost use Rattle.gate_io.specs.Flow.{ConsumesFewer};
 ghost use Rattle.recorder.specs.Files.{event_limit};
-ghost use Rattle.recorder.specs.Heads.{IsHeading, head_fault, head_text, play_magic};
+ghost use Rattle.recorder.specs.Heads.{Heading, IsHeading, head_fault, head_text, play_magic};
 ghost use Rattle.recorder.specs.Play.{PlayFits, longest_play, may_open, play_answer_text, play_event_text, play_fault_at};
 ghost use Rattle.recorder.specs.Reader.{Tells, again, fresh_play, head_again, headed_play, stepped_play};
 
@@ -60,15 +60,15 @@ impl PlayReader {
         self.reading.head(MAGIC, source)
     }
 
-    /// Reads the next event, or none at the end mark. An Idle or a Base out of order is an unknown kind. Once the
-    /// reader is over, the same is answered again and nothing is taken. A refusal has taken no more than an event's
-    /// octets.
+    /// Reads the next event, or none at the end mark. An Idle or a Base out of order is an unknown kind, and a look
+    /// tells of a number that the head's line has ahead. Once the reader is over, the same is answered again and
+    /// nothing is taken. A refusal has taken no more than an event's octets.
     pub fn next<I: Source>(&mut self, source: &mut I) -> Result<Option<PlayEvent>, RecordEnd>
         requires { IsSome self.old.reading.head }
         ensures again { IfSome self.old.reading.over (λ e. (result ≡ again e) × (self.new ≡ self.old) × (source.new ≡ source.old)) }
         ensures text { self.old.reading.over ≡ None → IfOk result (λ o. Consumes (I.left source.old) (I.left source.new) (play_answer_text o)) }
-        ensures fits { self.old.reading.over ≡ None → IfOk result (λ o. IfSome o (λ e. PlayFits self.old.opening e × (self.old.reading.count < event_limit))) }
-        ensures fault { self.old.reading.over ≡ None → IfSome (I.left source.old) (λ octets. Tells result (play_fault_at self.old.opening self.old.reading.count self.old.reading.at octets)) }
+        ensures fits { (h : Heading) → self.old.reading.head ≡ Some h → self.old.reading.over ≡ None → IfOk result (λ o. IfSome o (λ e. PlayFits h.g self.old.opening e × (self.old.reading.count < event_limit))) }
+        ensures fault { (h : Heading) → self.old.reading.head ≡ Some h → self.old.reading.over ≡ None → IfSome (I.left source.old) (λ octets. Tells result (play_fault_at h.g self.old.opening self.old.reading.count self.old.reading.at octets)) }
         ensures state { self.old.reading.over ≡ None → self.new ≡ stepped_play self.old result }
         ensures kept { self.new.reading.head ≡ self.old.reading.head }
         ensures part { OnErr result (ConsumesFewer (longest_play + 1) (I.left source.old) (I.left source.new)) }
@@ -78,7 +78,9 @@ impl PlayReader {
         if let Some(over) = self.reading.over() {
             return answer_again(over);
         }
+        let head = self.reading.heading();
         match read_play_event(
+            &head,
             self.opening,
             self.reading.count(),
             self.reading.at(),
@@ -114,8 +116,11 @@ fn size_of(event: &PlayEvent) -> u64
     ensures small { result ≤ 4096 }
 {
     match event {
-        PlayEvent::Idle | PlayEvent::Erasure => 1,
         PlayEvent::Base { .. } => 5,
-        PlayEvent::Frame(frame) => 1 + frame.octets().len() as u64,
+        PlayEvent::LookFree { .. } | PlayEvent::LookFilled { .. } => 3,
+        PlayEvent::Frame(frame) | PlayEvent::RetiredFrame(frame) => {
+            1 + frame.octets().len() as u64
+        }
+        _ => 1,
     }
 }

@@ -1,9 +1,10 @@
 // What was counted.
 ghost use Rattle.std.specs.Prelude.{◌≡◌};
-ghost use Rattle.recorder.specs.Tallies.{item_counted, no_plays, no_tally, reply_counted};
+ghost use Rattle.playout.specs.declared.call.Call.TheVariants.{TickCall};
+ghost use Rattle.recorder.specs.Tallies.{call_counted, no_plays, no_tally, reply_counted};
 
 use frame_codec::Item;
-use playout::FileReply;
+use playout::{Call, FileReply};
 
 /// What a filer's datagrams came to: how many there were, how its frames were answered, and the datagrams
 /// that gave no frame, each under its cause. Each count stands still at 2^64 - 1.
@@ -60,8 +61,8 @@ impl Tally {
     }
 }
 
-/// What a player's beats came to: ticks, of which some played a frame and the others an erasure, and the idle
-/// beats before them. Each count stands still at 2^64 - 1.
+/// What a player's beats came to: ticks, of which some played a frame and the others an erasure, the idle beats
+/// before them, the beats that it let pass, and the numbers that it left out. Each count stands still at 2^64 - 1.
 #[derive(Clone, Copy, Debug, PartialEq, Eq)]
 pub struct PlayTally {
     /// Ticks: frames and erasures.
@@ -72,6 +73,10 @@ pub struct PlayTally {
     pub erasures: u64,
     /// Beats before there was a base.
     pub idle: u64,
+    /// Beats that passed at the same number.
+    pub held: u64,
+    /// Numbers that were left out.
+    pub retired: u64,
 }
 
 impl PlayTally {
@@ -84,23 +89,33 @@ impl PlayTally {
             frames: 0,
             erasures: 0,
             idle: 0,
+            held: 0,
+            retired: 0,
         }
     }
 
-    /// Counts what a beat or a tick plays.
-    pub fn item(&mut self, item: &Item)
-        ensures { self.new ≡ item_counted self.old item.now }
+    /// Counts a call of the player.
+    pub fn call(&mut self, call: &Call)
+        ensures { self.new ≡ call_counted self.old call.now }
     {
+        match call {
+            Call::PeekCall { held: None } => self.idle = self.idle.saturating_add(1),
+            Call::HoldCall { held: true } => self.held = self.held.saturating_add(1),
+            Call::RetireCall { .. } => self.retired = self.retired.saturating_add(1),
+            Call::TickCall { item } => self.tick(item),
+            _ => {}
+        }
+    }
+
+    // Counts the item of a tick.
+    fn tick(&mut self, item: &Item)
+        ensures { self.new ≡ call_counted self.old (TickCall item.now) }
+    {
+        self.ticks = self.ticks.saturating_add(1);
         match item {
-            Item::Idle => self.idle = self.idle.saturating_add(1),
-            Item::Frame(_) => {
-                self.ticks = self.ticks.saturating_add(1);
-                self.frames = self.frames.saturating_add(1);
-            }
-            Item::Erasure => {
-                self.ticks = self.ticks.saturating_add(1);
-                self.erasures = self.erasures.saturating_add(1);
-            }
+            Item::Idle => {}
+            Item::Frame(_) => self.frames = self.frames.saturating_add(1),
+            Item::Erasure => self.erasures = self.erasures.saturating_add(1),
         }
     }
 }

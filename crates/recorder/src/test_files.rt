@@ -17,6 +17,15 @@ pub const EXCHANGE: &str = "script 01060003 03 00 00000007 0002 ABCD 04 FF";
 /// An Idle at 12, a Base at 13, an Erasure at 18 and a Frame at 19.
 pub const PLAYED: &str = "player 01060003 10 11 000003E8 12 13 frame FF";
 
+/// A player that may hold: a Base at 12, a Found at 17, a Frame at 18, a Held at 52, a LookFilled of the next number at 53
+/// and a Frame at 56.
+pub const ELASTIC: &str = "player 01060003 11 000003E8 15 13 frame 14 17 0000 13 frame FF";
+
+/// The same where a number was lost: a LookFree of the next number at 53, a LookFilled of the number after it at 56, a
+/// RetiredErasure at 59, a Frame at 60, and a RetiredFrame at 94.
+pub const RETIRED: &str =
+    "player 01060003 11 000003E8 15 13 frame 14 16 0000 17 0001 18 13 frame 19 frame FF";
+
 /// Two filers, of filer 1: an event of each kind at 13, 22, 31, 73, 115, 165, 215, 219, 220 and 229.
 pub const FILED: &str = "filer 02060003 01 20 000003E8 00000102 21 000003E8 00000102
 22 0000000100000003 frame 23 0000000100000003 frame

@@ -3,13 +3,13 @@ ghost use Rattle.recorder.specs.Script.{FitsSomeHead};
 
 use super::*;
 use crate::test_files::{
-    EXCHANGE, FILED, Kept, Opened, PLAYED, SCRIPT, cuts_are_told, end_of_file, frame, has_fault,
-    long_of, octets_of,
+    ELASTIC, EXCHANGE, FILED, Kept, Opened, PLAYED, RETIRED, SCRIPT, cuts_are_told, end_of_file,
+    frame, has_fault, long_of, octets_of,
 };
-use frame_codec::Item;
+use frame_codec::{Frame33, Item};
 use gate_base::OutOfMemory;
 use gate_io::{MemorySink, MemorySource};
-use playout::FileReply;
+use playout::{Call, FileReply};
 use std::alloc::Global;
 use std::test::Fail;
 
@@ -31,6 +31,8 @@ fn each_file_is_read_and_each_cut_of_it_is_told(rt: HostRuntime) -> Result<(), F
     assert!(rt; is_whole(rt.alloc(), Kept::Script, EXCHANGE, 2)?);
     assert!(rt; is_whole(rt.alloc(), Kept::Beats, PLAYED, 4)?);
     assert!(rt; is_whole(rt.alloc(), Kept::Player, PLAYED, 4)?);
+    assert!(rt; is_whole(rt.alloc(), Kept::Beats, ELASTIC, 6)?);
+    assert!(rt; is_whole(rt.alloc(), Kept::Player, RETIRED, 9)?);
     assert!(rt; is_whole(rt.alloc(), Kept::Filer, FILED, 10)?);
     Ok(())
 }
@@ -105,6 +107,36 @@ fn idle_and_base_out_of_order_are_unknown_kinds(rt: HostRuntime) -> Result<(), F
     // An Erasure in the place of the first Idle, and then a Base.
     let kind = RecordFault::Kind { at: 13 };
     assert!(rt; has_fault(rt.alloc(), Kept::Player, PLAYED, 12, 0x12, kind)?);
+    Ok(())
+}
+
+#[test]
+fn a_look_past_the_window_is_told_with_its_place(rt: HostRuntime) -> Result<(), Fail> {
+    // The line has 2^6 slots: 63 numbers lie ahead of the next one, and 64 does not.
+    let octets = octets_of(rt.alloc(), "player 01060003 16 003F 17 003F FF")?;
+    assert!(rt; end_of_file(rt.alloc(), Kept::Beats, &octets, 2, &[])? == Ok(2));
+    let fields = [
+        (ELASTIC, 55, 64, 54),
+        (ELASTIC, 54, 1, 54),
+        (RETIRED, 55, 64, 54),
+        (RETIRED, 58, 255, 57),
+        (RETIRED, 95, 0xC8, 95),
+    ];
+    for (text, at, octet, place) in fields {
+        let fault = RecordFault::Field { at: place };
+        assert!(rt;
+            has_fault(rt.alloc(), Kept::Player, text, at, octet, fault)?,
+            "{at}"
+        );
+    }
+    // Nothing opens the journal again.
+    for (at, octet) in [(52, 0x10), (52, 0x11), (53, 0x1A), (17, 0x11)] {
+        let fault = RecordFault::Kind { at: at as u64 };
+        assert!(rt;
+            has_fault(rt.alloc(), Kept::Beats, ELASTIC, at, octet, fault)?,
+            "{at}"
+        );
+    }
     Ok(())
 }
 
@@ -363,11 +395,36 @@ fn is_filed(alloc: Global, event: &FilerEvent, text: &str) -> Result<bool, OutOf
     Ok(given.is_ok() && holds(alloc, &sink, text)?)
 }
 
-// Whether an event of the player is written so, in one give.
-fn is_played(alloc: Global, event: &PlayEvent, text: &str) -> Result<bool, OutOfMemory> {
-    let mut sink = MemorySink::new(alloc, 60, &[(1, 0)])?;
-    let given = write_play(event, &mut sink);
-    Ok(given.is_ok() && holds(alloc, &sink, text)?)
+// Whether the event of a call of the player is written so, in one give.
+fn is_played(alloc: Global, call: &Call, text: &str) -> Result<bool, OutOfMemory> {
+    match play_event_of(call) {
+        Some(event) => {
+            let mut sink = MemorySink::new(alloc, 60, &[(1, 0)])?;
+            let given = write_play(&event, &mut sink);
+            Ok(given.is_ok() && holds(alloc, &sink, text)?)
+        }
+        None => Ok(false),
+    }
+}
+
+fn tick(item: Item) -> Call {
+    Call::TickCall { item }
+}
+
+fn retire(item: Item) -> Call {
+    Call::RetireCall { item }
+}
+
+fn peek(held: Option<u32>) -> Call {
+    Call::PeekCall { held }
+}
+
+fn look(ahead: u32, filled: bool) -> Call {
+    Call::LookCall { ahead, filled }
+}
+
+fn hold(held: bool) -> Call {
+    Call::HoldCall { held }
 }
 
 // Whether an event of a script is written so, in one give.
@@ -399,11 +456,80 @@ fn heads_and_the_end_mark_have_their_octets(rt: HostRuntime) -> Result<(), Fail>
 #[test]
 fn each_event_of_a_player_has_its_octets(rt: HostRuntime) -> Result<(), Fail> {
     let frame = frame()?;
-    let base = PlayEvent::Base { base: 1000 };
-    assert!(rt; is_played(rt.alloc(), &play_event_of(Item::Idle), "10")?);
-    assert!(rt; is_played(rt.alloc(), &base, "11 000003E8")?);
-    assert!(rt; is_played(rt.alloc(), &play_event_of(Item::Erasure), "12")?);
-    assert!(rt; is_played(rt.alloc(), &play_event_of(Item::Frame(frame)), "13 frame")?);
+    assert!(rt; is_played(rt.alloc(), &peek(None), "10")?);
+    assert!(rt; is_played(rt.alloc(), &peek(Some(1000)), "11 000003E8")?);
+    assert!(rt; is_played(rt.alloc(), &tick(Item::Erasure), "12")?);
+    assert!(rt; is_played(rt.alloc(), &tick(Item::Frame(frame)), "13 frame")?);
+    assert!(rt; is_played(rt.alloc(), &hold(true), "14")?);
+    assert!(rt; is_played(rt.alloc(), &hold(false), "15")?);
+    assert!(rt; is_played(rt.alloc(), &look(258, false), "16 0102")?);
+    assert!(rt; is_played(rt.alloc(), &look(1, true), "17 0001")?);
+    assert!(rt; is_played(rt.alloc(), &retire(Item::Erasure), "18")?);
+    assert!(rt; is_played(rt.alloc(), &retire(Item::Frame(frame)), "19 frame")?);
+    Ok(())
+}
+
+// The calls of a player that held at number 1 and then left it out.
+fn calls_of_a_player(frame: Frame33) -> [Call; 8] {
+    [
+        peek(None),
+        peek(Some(1000)),
+        hold(false),
+        tick(Item::Frame(frame)),
+        hold(true),
+        look(1, true),
+        retire(Item::Erasure),
+        tick(Item::Erasure),
+    ]
+}
+
+#[test]
+fn the_calls_of_a_player_are_counted(rt: HostRuntime) -> Result<(), Fail> {
+    let mut tally = PlayTally::new();
+    for call in calls_of_a_player(frame()?).iter() {
+        tally.call(call);
+    }
+    let counted = PlayTally {
+        ticks: 2,
+        frames: 1,
+        erasures: 1,
+        idle: 1,
+        held: 1,
+        retired: 1,
+    };
+    assert!(rt; tally == counted);
+    Ok(())
+}
+
+#[test]
+fn a_beat_gives_one_item(rt: HostRuntime) -> Result<(), Fail> {
+    let frame = frame()?;
+    assert!(rt; call_item(&peek(None)) == Some(Item::Idle));
+    assert!(rt; call_item(&peek(Some(1000))).is_none());
+    assert!(rt; call_item(&hold(true)) == Some(Item::Erasure));
+    assert!(rt; call_item(&hold(false)).is_none());
+    assert!(rt; call_item(&look(0, false)).is_none());
+    assert!(rt; call_item(&retire(Item::Frame(frame))).is_none());
+    assert!(rt; call_item(&tick(Item::Frame(frame))) == Some(Item::Frame(frame)));
+    Ok(())
+}
+
+#[test]
+fn a_journal_keeps_looks_holds_and_retires(rt: HostRuntime) -> Result<(), Fail> {
+    let octets = octets_of(rt.alloc(), RETIRED)?;
+    let mut source = MemorySource::new(rt.alloc(), &octets, 9, &[])?;
+    let journal = PlayerJournal::read(rt.alloc(), &mut source)?;
+    let frame = frame()?;
+    let free = PlayEvent::LookFree { ahead: 0 };
+    let filled = PlayEvent::LookFilled { ahead: 1 };
+    assert!(rt; play_event(&journal, 0) == Some(PlayEvent::Base { base: 1000 }));
+    assert!(rt; play_event(&journal, 1) == Some(PlayEvent::Found));
+    assert!(rt; play_event(&journal, 2) == Some(PlayEvent::Frame(frame)));
+    assert!(rt; play_event(&journal, 3) == Some(PlayEvent::Held));
+    assert!(rt; play_event(&journal, 4) == Some(free));
+    assert!(rt; play_event(&journal, 5) == Some(filled));
+    assert!(rt; play_event(&journal, 6) == Some(PlayEvent::RetiredErasure));
+    assert!(rt; play_event(&journal, 8) == Some(PlayEvent::RetiredFrame(frame)));
     Ok(())
 }
 

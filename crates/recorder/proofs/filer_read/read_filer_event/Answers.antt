@@ -1,4 +1,4 @@
-use Rattle.std.proofs.Common.{◌≡◌, ℕ, length, Option, None, Some, sym, ◌∙◌, arith, ◌∷◌, [], take}
+use Rattle.std.proofs.Common.{◌≡◌, length, Option, None, Some, sym, ◌∙◌, arith, ◌∷◌, []}
 use Rattle.std.proofs.lemmas.List.{length-take-le}
 use Rattle.recorder.specs.Fields.{judged_behind}
 use Rattle.recorder.specs.Filing.{filer_field_fault, filer_width}

@@ -1,4 +1,4 @@
-use Rattle.std.proofs.Common.{◌≡◌, ℕ, Option, Err, sym, subst, ◌∷◌, [], arith}
+use Rattle.std.proofs.Common.{ℕ, Option, Err, sym, subst, ◌∷◌, [], arith}
 use Rattle.std.specs.Prelude.{IfSome}
 use Rattle.recorder.specs.declared.fault.RecordFault.{RecordFault}
 use Rattle.recorder.specs.declared.events.ScriptEvent.{ScriptEvent}

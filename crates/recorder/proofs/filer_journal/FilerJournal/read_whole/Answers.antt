@@ -1,8 +1,7 @@
-use Rattle.std.proofs.Common.{◌≡◌, ◌≤◌, ◌+◌, ℕ, [], ◌∷◌, ◌++◌, List, Option, Err, ap, subst, sym, ◌∙◌, take, arith}
+use Rattle.std.proofs.Common.{◌≡◌, ◌≤◌, ℕ, ◌++◌, List, Option, Err, ap, subst, sym, ◌∙◌, take, arith}
 use Rattle.std.specs.List.{flat_map, AllByRecursion}
 use Rattle.gate_base.specs.Faults.{Rose}
 use Rattle.recorder.specs.declared.events.FilerEvent.{FilerEvent}
-use Rattle.recorder.specs.declared.fault.RecordEnd.{RecordEnd}
 use Rattle.recorder.specs.declared.fault.RecordEnd.TheVariants.{Fault, ReadFailed}
 use Rattle.recorder.specs.declared.fault.Ending.TheVariants as ending
 use Rattle.recorder.specs.declared.refusal.JournalRefusal.TheVariants.{End}

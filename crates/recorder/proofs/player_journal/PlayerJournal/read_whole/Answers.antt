@@ -1,13 +1,12 @@
-use Rattle.std.proofs.Common.{◌≡◌, ◌≤◌, ◌+◌, ℕ, [], ◌∷◌, ◌++◌, List, Bool, true, Option, Err, ap, subst, sym, ◌∙◌, take, arith}
+use Rattle.std.proofs.Common.{◌≡◌, ◌≤◌, ℕ, ◌++◌, List, Bool, true, Option, Err, ap, subst, sym, ◌∙◌, take, arith}
 use Rattle.std.specs.List.{flat_map}
 use Rattle.gate_base.specs.Faults.{Rose}
 use Rattle.recorder.specs.declared.events.PlayEvent.{PlayEvent}
-use Rattle.recorder.specs.declared.fault.RecordEnd.{RecordEnd}
 use Rattle.recorder.specs.declared.fault.RecordEnd.TheVariants.{Fault, ReadFailed}
 use Rattle.recorder.specs.declared.fault.Ending.TheVariants as ending
 use Rattle.recorder.specs.declared.refusal.JournalRefusal.TheVariants.{End}
 use Rattle.recorder.specs.Heads.{Heading, head_fault, head_text, play_magic}
-use Rattle.recorder.specs.Play.{AllPlayFit, PlayFits, may_open, play_event_text, play_fault_at}
+use Rattle.recorder.specs.Play.{AllPlayFit, PlayFits, play_event_text, play_fault_at}
 use Rattle.recorder.specs.Journals.{PlayerRecord, opening_behind}
 use Rattle.recorder.specs.Reader.{PlayProgress}
 use Rattle.recorder.proofs.JournalSofar.{Sofar, sofar-more, plays-more, opening-more}
@@ -28,7 +27,7 @@ events-preserved g c =
     let s = c.events.invariant in
     let e = c.in-Ok-Some.event in
     let all = rw c.in-Ok-Some.field-0-is at c.in-Ok-Some.ensures in
-    let fits = all.fits s.over in
+    let fits = all.fits c.in-Ok.head s.head s.over in
     let state = all.state s.over in
     let left = g.I.Source.left in
     let items = c.in-Ok-push.ensures.items in
@@ -37,7 +36,7 @@ events-preserved g c =
       sofar = subst (λ (l : List PlayEvent). Sofar play_event_text head c.next.new.self.reading.at c.next.new.self.reading.count (left c.args.source.now) (left c.next.new.source) l) (sym items)
           (sofar-more play_event_text head c.events.reader.reading.at c.events.reader.reading.count c.next.new.self.reading.at c.next.new.self.reading.count (left c.args.source.now) (left c.events.source) (left c.next.new.source) c.events.events.items e
           s.sofar fits.1 (all.text s.over) (ap (λ (p : PlayProgress). p.reading.at) state) (ap (λ (p : PlayProgress). p.reading.count) state));
-      fits = subst (AllPlayFit true) (sym items) (plays-more true c.events.events.items e s.fits (subst (λ (b : Bool). PlayFits b e) s.opening fits.0));
+      fits = subst (AllPlayFit c.in-Ok.head.g true) (sym items) (plays-more c.in-Ok.head.g true c.events.events.items e s.fits (subst (λ (b : Bool). PlayFits c.in-Ok.head.g b e) s.opening fits.0));
       opening = ap (λ (p : PlayProgress). p.opening) state ∙ sym (opening-more true c.events.events.items e) ∙ ap (opening_behind true) (sym items);
       head = ap (λ (p : PlayProgress). p.reading.head) state ∙ s.head;
       over = ap (λ (p : PlayProgress). p.reading.over) state ∙ s.over;
@@ -52,7 +51,7 @@ returns-in-Err-next-clause-fault g c = λ f same.
     let is : c.in-Err-next.end ≡ Fault f = cc in
     player_refused (left c.args.source.now) (left c.events.source) j c.events.reader.opening c.events.reader.reading.at c.events.reader.reading.count f
     (record { head = c.in-Ok.ensures.fits c.new-reader.ensures; events = s.fits; few = s.sofar.few }) s.opening s.sofar
-    (fault_told (Option PlayEvent) (left c.events.source) c.in-Err-next.end (play_fault_at c.events.reader.opening c.events.reader.reading.count c.events.reader.reading.at) f (c.in-Err-next.ensures.fault s.over) is)
+    (fault_told (Option PlayEvent) (left c.events.source) c.in-Err-next.end (play_fault_at c.in-Ok.head.g c.events.reader.opening c.events.reader.reading.count c.events.reader.reading.at) f (c.in-Err-next.ensures.fault c.in-Ok.head s.head s.over) is)
 
 pub returns-in-Err-next-clause-complete : goal.returns-in-Err-next-clause-complete
 returns-in-Err-next-clause-complete g c = λ octets j told journal fine.
@@ -82,3 +81,10 @@ returns-in-Err-push-clause-part g c =
 
 pub returns-in-Err-push-clause-memory : goal.returns-in-Err-push-clause-memory
 returns-in-Err-push-clause-memory g c = λ same. c.in-Ok.ensures.fault c.new-reader.ensures
+
+pub events-smaller : goal.events-smaller
+events-smaller g c =
+    let s = c.events.invariant in
+    let all = rw c.in-Ok-Some.field-0-is at c.in-Ok-Some.ensures in
+    let fits = all.fits c.in-Ok.head s.head s.over in
+    omega (arith, fits.1, ap (λ (p : PlayProgress). p.reading.count) (all.state s.over))

@@ -8,7 +8,7 @@ use Rattle.recorder.proofs.player_journal.PlayerJournal.read_whole.Given as goal
 abbrev pub invariant-events : goal.invariant-events
 invariant-events g l = record {
   sofar : Sofar play_event_text (head_text play_magic l.head) l.reader.reading.at l.reader.reading.count (g.I.Source.left l.fn.source) (g.I.Source.left l.source) l.events.items;
-  fits : AllPlayFit true l.events.items;
+  fits : AllPlayFit l.head.g true l.events.items;
   opening : l.reader.opening ≡ opening_behind true l.events.items;
   head : l.reader.reading.head ≡ Some l.head;
   over : l.reader.reading.over ≡ None;
