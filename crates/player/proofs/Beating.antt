@@ -1,45 +1,21 @@
 -- What a beat did.
-use Rattle.std.proofs.Common.{◌≡◌, ℕ, ◌+◌, List, ◌++◌, length, Option, Result, inl, inr, sym, ap, subst, ◌∙◌, append-nil}
+use Rattle.std.proofs.Common.{◌≡◌, ℕ, ◌+◌, List, [], ◌∷◌, length, Option, inl, inr, ap, subst, ◌∙◌}
 use Rattle.std.specs.Prelude.{ℤ}
 use Rattle.std.specs.List.{flat_map, AllByRecursion}
 use Rattle.std.specs.Io.KnownBytes.{Appends}
-use Rattle.gate_io.specs.Flow.{AppendsPart, Gives}
-use Rattle.gate_io.specs.FlowLaws.{AppendsPart-longer, Gives-after}
 use Rattle.gate_io.specs.Links.{LinkLog}
 use Rattle.frame_codec.specs.declared.item.Item.{Item}
 use Rattle.playout.specs.declared.call.Call.{Call}
-use Rattle.playout.specs.History.{Chained, ticks}
-use Rattle.recorder.specs.declared.events.PlayEvent.{PlayEvent}
-use Rattle.recorder.specs.declared.events.PlayEvent.TheVariants.{Base}
-use Rattle.recorder.specs.Play.{call_text, event_of_item, play_event_text}
-use Rattle.recorder.specs.Tallies.{item_counted}
+use Rattle.playout.specs.History.{Chained, moves}
+use Rattle.recorder.specs.Play.{call_text}
+use Rattle.recorder.specs.Tallies.{call_items}
 use Rattle.substitution.specs.Heard.{sample_octets}
 use Rattle.player.specs.declared.return_stream.ReturnEnd.{ReturnEnd}
 use Rattle.player.specs.declared.return_stream.ReturnEnd.TheVariants as ends
-use Rattle.player.specs.declared.found.Found.{Found}
-use Rattle.player.specs.declared.found.Found.TheVariants.{First}
 use Rattle.player.specs.declared.beat.Beat.{Beat}
 use Rattle.player.specs.declared.beat.Beat.TheVariants.{Played, MicFault, ReplyFault}
 use Rattle.player.specs.Returning.{Returns, Stream}
-use Rattle.player.specs.Beats.{Beats, CanBeTold, Hears, Looks, Playing, Replies, Speaks, Standing, Writes, beaten, calls_of, is_open, item_of}
-
--- ---- the events
-
-text-first : (found : Found) (base : ℕ) (item : Item) → found ≡ First base item → flat_map call_text (calls_of found) ≡ play_event_text (Base base) ++ play_event_text (event_of_item item)
-text-first found base item is =
-    ap (λ (f : Found). flat_map call_text (calls_of f)) is ∙ ap (λ (l : List ℕ). play_event_text (Base base) ++ l) (append-nil (play_event_text (event_of_item item)))
-
--- a base, and then the item of the first tick
-pub first-given : {T E : Type 0} (a b c : Option (List ℕ)) (r : Result T E) (found : Found) (base : ℕ) (item : Item) (event : PlayEvent) → found ≡ First base item → event ≡ event_of_item item
-    → Appends a b (play_event_text (Base base)) → Gives b c r (play_event_text event) → Gives a c r (flat_map call_text (calls_of found))
-first-given a b c r found base item event is what p q =
-    subst (Gives a c r) (sym (text-first found base item is))
-    (Gives-after a b c r (play_event_text (Base base)) (play_event_text (event_of_item item)) p (subst (λ (e : PlayEvent). Gives b c r (play_event_text e)) what q))
-
-pub first-cut : (a b : Option (List ℕ)) (found : Found) (base : ℕ) (item : Item) → found ≡ First base item → AppendsPart a b (play_event_text (Base base))
-    → AppendsPart a b (flat_map call_text (calls_of found))
-first-cut a b found base item is p =
-    subst (AppendsPart a b) (sym (text-first found base item is)) (AppendsPart-longer a b (play_event_text (Base base)) (play_event_text (event_of_item item)) p)
+use Rattle.player.specs.Beats.{Beats, CanBeTold, Hears, IsBeat, Playing, Replies, Speaks, Standing, Writes, all_counted, beaten, held_after, opened_after}
 
 -- ---- the return stream
 
@@ -70,29 +46,41 @@ writes-of old new text ends.ReplyFault h = h
 
 -- ---- a beat of its parts
 
-pub beat-is : {S : Type 0} (did : S → Call → S → Type 0) (a b : Standing S) (was : Playing) (end : Beat) (found : Found) (item : Item) (played : List ℤ)
-    → was ≡ a.player → item ≡ item_of found → Looks was.opened found → AllByRecursion CanBeTold (calls_of found) → Chained did a.side (calls_of found) b.side → b.position ≡ a.position + ticks (calls_of found)
+-- what was asked, made of the player that stood before
+pub record Made {S : Type 0} (did : S → Call → S → Type 0) (a b : Standing S) (was : Playing) (calls : List Call) (item : Item) : Type 0 where
+  pub was_is : was ≡ a.player
+  pub asks : IsBeat was.elastic was.held was.opened calls
+  pub told : AllByRecursion (CanBeTold a.g) calls
+  pub side : Chained did a.side calls b.side
+  pub position : b.position ≡ a.position + moves calls
+  pub slots : b.g ≡ a.g
+  pub gives : flat_map call_items calls ≡ item ∷ []
+  pub now : b.player ≡ beaten was calls b.player.voice b.player.stream
+
+pub beat-is : {S : Type 0} (did : S → Call → S → Type 0) (a b : Standing S) (was : Playing) (end : Beat) (calls : List Call) (item : Item) (played : List ℤ) → Made did a b was calls item
     → length played ≡ 160 → Speaks was.voice b.player.voice item played
-    → b.player.tally ≡ item_counted was.tally item → b.player.opened ≡ is_open found → b.player.made ≡ was.made + 1 → b.player.ticks ≡ was.ticks
-    → Hears end a.heard b.heard (sample_octets played) → Writes end a.written b.written (flat_map call_text (calls_of found))
+    → Hears end a.heard b.heard (sample_octets played) → Writes end a.written b.written (flat_map call_text calls)
     → Replies end was.stream b.player.stream a.left b.left a.log b.log → Beats did a b end
-beat-is did a b was end found item played is what looks told side position count voice tally opened made most hears writes replies = record {
-  found = found;
-  looks = subst (λ (p : Playing). Looks p.opened found) is looks;
-  told = told;
-  side = side;
-  position = position;
+beat-is did a b was end calls item played made count voice hears writes replies = record {
+  calls = calls;
+  asks = subst (λ (p : Playing). IsBeat p.elastic p.held p.opened calls) made.was_is made.asks;
+  told = made.told;
+  side = made.side;
+  position = made.position;
+  slots = made.slots;
+  item = item;
+  heard = made.gives;
   played = played;
   count = count;
-  voice = subst (λ (p : Playing). Speaks p.voice b.player.voice (item_of found) played) is (subst (λ (i : Item). Speaks was.voice b.player.voice i played) what voice);
-  player = same ∙ ap (λ (p : Playing). beaten p found b.player.voice b.player.stream) is;
+  voice = subst (λ (p : Playing). Speaks p.voice b.player.voice item played) made.was_is voice;
+  player = made.now ∙ ap (λ (p : Playing). beaten p calls b.player.voice b.player.stream) made.was_is;
   speaker = hears;
   journal = writes;
-  reply = subst (λ (p : Playing). Replies end p.stream b.player.stream a.left b.left a.log b.log) is replies;
+  reply = subst (λ (p : Playing). Replies end p.stream b.player.stream a.left b.left a.log b.log) made.was_is replies;
 }
-  where
-    counted : b.player.tally ≡ item_counted was.tally (item_of found)
-    counted = tally ∙ ap (item_counted was.tally) what
 
-    same : b.player ≡ beaten was found b.player.voice b.player.stream
-    same = λ i. record { voice = b.player.voice; stream = b.player.stream; tally = counted i; opened = opened i; made = made i; ticks = most i }
+-- a player by what a beat has made of it
+pub beaten-is : (was now : Playing) (calls : List Call) → now.tally ≡ all_counted was.tally calls → now.opened ≡ opened_after was.opened calls → now.made ≡ was.made + 1 → now.ticks ≡ was.ticks
+    → now.held ≡ held_after was.held calls → now.elastic ≡ was.elastic → now ≡ beaten was calls now.voice now.stream
+beaten-is was now calls tally opened made most held elastic =
+    λ i. record { voice = now.voice; stream = now.stream; tally = tally i; opened = opened i; made = made i; ticks = most i; held = held i; elastic = elastic i }

@@ -3,7 +3,8 @@ mod Running
 mod Samples
 mod Streaming
 mod Returned
-mod BeatCalls
+mod CallLists
+mod BeatParts
 mod Serving
 mod WholeBeats
 mod WholeEnds

@@ -15,10 +15,10 @@ use Rattle.player.specs.declared.run.PlayerEnd.{PlayerEnd}
 use Rattle.player.specs.declared.run.PlayerEnd.TheVariants as ended
 use Rattle.player.specs.declared.return_stream.ReturnEnd.TheVariants as ends
 use Rattle.player.specs.Returning.{Returns, next_packet}
-use Rattle.player.specs.Beats.{Beats, Playing, Standing, calls_of}
+use Rattle.player.specs.Beats.{Beats, Playing, Standing}
 use Rattle.player.specs.PlayerRuns.{Marked, with_written}
 use Rattle.player.specs.Whole.{ButLast, Journaled, MarkedBehind, PlayerGave, PlayerTold, Returned, Sent, SpeakerHas, ports, text_in}
-use Rattle.player.proofs.BeatCalls.{are-beats, text-more}
+use Rattle.player.proofs.CallLists.{text-more}
 use Rattle.player.proofs.Serving.{Serving-coded, sent-or-not, served}
 use Rattle.player.proofs.WholeBeats.{Asked, Asked-more, WholeBeats, journal-more, octets-more, speaker-more}
 
@@ -53,57 +53,69 @@ marked-behind a b c before now text p (inl q) = inl (Appends-trans a b c text (e
 marked-behind a b c before now text p (inr (q, rose)) = inr (subst (Appends a c) (append-nil text) (Appends-trans a b c text [] p q), rose)
 
 -- all but the last of the beats
-but-last : {S : Type 0} (did : S → Call → S → Type 0) (seed : List ℕ) (n : ℕ) (calls last : List Call) (samples : List ℤ) (a m : Standing S) → Asked did seed n calls samples a m
-    → ButLast (suc n) (calls ++ last) calls
-but-last did seed n calls last samples a m asked = record { last = last; count = n; one_more = refl; beats = are-beats m.player.opened n calls asked.shape; calls_are = refl }
+but-last : {S : Type 0} (did : S → Call → S → Type 0) (seed : List ℕ) (elastic n : ℕ) (calls last : List Call) (samples : List ℤ) (a m : Standing S) → Asked did seed elastic n calls samples a m
+    → ButLast elastic (suc n) (calls ++ last) calls
+but-last did seed elastic n calls last samples a m asked = record { last = last; count = n; one_more = refl; beats = asked.beats; calls_are = refl }
 
 -- ---- a run of its parts
 
-told : {S : Type 0} (did : S → Call → S → Type 0) (seed : List ℕ) (own sequence stamp before now n : ℕ) (a b : Standing S) (end : PlayerEnd) (calls : List Call) (samples : List ℤ) (behind : ℕ)
-    → Asked did seed n calls samples a b → b.player.made ≡ n → SpeakerHas end n a.heard b.heard (sample_octets samples) → Journaled end before now n calls a.written b.written behind
-    → Returned end own sequence stamp behind a.left b.left a.log b.log → PlayerTold did seed own sequence stamp before now a b end
-told did seed own sequence stamp before now n a b end calls samples behind asked made speaker journal reply = record {
+told : {S : Type 0} (did : S → Call → S → Type 0) (seed : List ℕ) (own sequence stamp elastic before now n : ℕ) (a b : Standing S) (end : PlayerEnd) (calls : List Call) (samples : List ℤ) (behind : ℕ)
+    → Asked did seed elastic n calls samples a b → b.player.made ≡ n → SpeakerHas end n a.heard b.heard (sample_octets samples) → Journaled end elastic before now n calls a.written b.written behind
+    → Returned end own sequence stamp behind a.left b.left a.log b.log → PlayerTold did seed own sequence stamp elastic before now a b end
+told did seed own sequence stamp elastic before now n a b end calls samples behind asked made speaker journal reply = record {
   calls = calls;
   side = asked.side;
   position = asked.position;
-  gave = subst (λ (k : ℕ). PlayerGave seed own sequence stamp before now k calls (ports a) (ports b) end) (sym made) gave;
+  gave = subst (λ (k : ℕ). PlayerGave seed own sequence stamp elastic a.g before now k calls (ports a) (ports b) end) (sym made) gave;
   tally = asked.tally;
 }
   where
-    gave : PlayerGave seed own sequence stamp before now n calls (ports a) (ports b) end
-    gave = record { beats = are-beats b.player.opened n calls asked.shape; told = asked.told; samples = samples; heard = asked.voice.heard; speaker = speaker; served = behind; journal = journal; reply = reply }
+    gave : PlayerGave seed own sequence stamp elastic a.g before now n calls (ports a) (ports b) end
+    gave = record { beats = asked.beats; told = asked.told; samples = samples; heard = asked.voice.heard; speaker = speaker; served = behind; journal = journal; reply = reply }
 
 -- what was asked stands whatever the journal was given then
-marked : {S : Type 0} (did : S → Call → S → Type 0) (seed : List ℕ) (n : ℕ) (calls : List Call) (samples : List ℤ) (a m : Standing S) (written : Option (List ℕ)) → Asked did seed n calls samples a m
-    → Asked did seed n calls samples a (with_written m written)
-marked did seed n calls samples a m written s = record { side = s.side; position = s.position; shape = s.shape; told = s.told; voice = s.voice; count = s.count; tally = s.tally }
+marked : {S : Type 0} (did : S → Call → S → Type 0) (seed : List ℕ) (elastic n : ℕ) (calls : List Call) (samples : List ℤ) (a m : Standing S) (written : Option (List ℕ)) → Asked did seed elastic n calls samples a m
+    → Asked did seed elastic n calls samples a (with_written m written)
+marked did seed elastic n calls samples a m written s = record {
+  side = s.side;
+  position = s.position;
+  slots = s.slots;
+  most_held = s.most_held;
+  held = s.held;
+  opened = s.opened;
+  beats = s.beats;
+  told = s.told;
+  voice = s.voice;
+  count = s.count;
+  tally = s.tally;
+}
 
 -- ---- no beat failed
 
-module _ {S : Type 0} (did : S → Call → S → Type 0) (seed : List ℕ) (own sequence stamp before now : ℕ) (a m : Standing S) (written : Option (List ℕ))
-    (w : WholeBeats did seed own sequence stamp m.player.made a m) where
-  kept : Asked did seed m.player.made w.calls w.samples a (with_written m written)
-  kept = marked did seed m.player.made w.calls w.samples a m written w.asked
+module _ {S : Type 0} (did : S → Call → S → Type 0) (seed : List ℕ) (own sequence stamp elastic before now : ℕ) (a m : Standing S) (written : Option (List ℕ))
+    (w : WholeBeats did seed own sequence stamp elastic m.player.made a m) where
+  kept : Asked did seed elastic m.player.made w.calls w.samples a (with_written m written)
+  kept = marked did seed elastic m.player.made w.calls w.samples a m written w.asked
 
   returned : Returned ended.Ended own sequence stamp m.player.made a.left m.left a.log m.log
   returned = (w.pieces, w.packets, served own sequence stamp m.player.made a.left m.left m.player.stream w.pieces w.packets w.serving, w.sent)
 
-  pub told-ended : Appends m.written written (end_mark ∷ []) → PlayerTold did seed own sequence stamp before now a (with_written m written) ended.Ended
+  pub told-ended : Appends m.written written (end_mark ∷ []) → PlayerTold did seed own sequence stamp elastic before now a (with_written m written) ended.Ended
   told-ended mark =
-      told did seed own sequence stamp before now m.player.made a (with_written m written) ended.Ended w.calls w.samples m.player.made kept refl w.speaker
+      told did seed own sequence stamp elastic before now m.player.made a (with_written m written) ended.Ended w.calls w.samples m.player.made kept refl w.speaker
       (Appends-trans a.written m.written written (text_in w.calls) (end_mark ∷ []) w.journal mark, refl) returned
 
   -- the end mark was not given
-  pub told-unmarked : AppendsPart m.written written (end_mark ∷ []) → PlayerTold did seed own sequence stamp before now a (with_written m written) ended.JournalFault
+  pub told-unmarked : AppendsPart m.written written (end_mark ∷ []) → PlayerTold did seed own sequence stamp elastic before now a (with_written m written) ended.JournalFault
   told-unmarked (k, mark) =
-      told did seed own sequence stamp before now m.player.made a (with_written m written) ended.JournalFault w.calls w.samples m.player.made kept refl w.speaker
+      told did seed own sequence stamp elastic before now m.player.made a (with_written m written) ended.JournalFault w.calls w.samples m.player.made kept refl w.speaker
       (inr (k, Appends-trans a.written m.written written (text_in w.calls) (take k (end_mark ∷ [])) w.journal mark, refl)) returned
 
 -- ---- the last beat failed
 
-module _ {S : Type 0} (did : S → Call → S → Type 0) (seed : List ℕ) (own sequence stamp before now : ℕ) (a m b : Standing S) (end : Beat) (w : WholeBeats did seed own sequence stamp m.player.made a m) (x : Beats did m b end) where
+module _ {S : Type 0} (did : S → Call → S → Type 0) (seed : List ℕ) (own sequence stamp elastic before now : ℕ) (a m b : Standing S) (end : Beat) (w : WholeBeats did seed own sequence stamp elastic m.player.made a m) (x : Beats did m b end) where
   abbrev calls : List Call
-  calls = w.calls ++ calls_of x.found
+  calls = w.calls ++ x.calls
 
   abbrev samples : List ℤ
   samples = w.samples ++ x.played
@@ -111,16 +123,16 @@ module _ {S : Type 0} (did : S → Call → S → Type 0) (seed : List ℕ) (own
   made : b.player.made ≡ suc m.player.made
   made = let next : b.player.made ≡ m.player.made + 1 = ap (λ (p : Playing). p.made) x.player in omega arith
 
-  asked : Asked did seed (suc m.player.made) calls samples a b
-  asked = Asked-more did seed m.player.made w.calls w.samples a m b end w.asked x
+  asked : Asked did seed elastic (suc m.player.made) calls samples a b
+  asked = Asked-more did seed elastic m.player.made w.calls w.samples a m b end w.asked x
 
   -- with what the journal was given then
   pub told-last : (behind : PlayerEnd) (written : Option (List ℕ)) → SpeakerHas behind (suc m.player.made) a.heard b.heard (sample_octets samples)
-      → Journaled behind before now (suc m.player.made) calls a.written written m.player.made → Returned behind own sequence stamp m.player.made a.left b.left a.log b.log
-      → PlayerTold did seed own sequence stamp before now a (with_written b written) behind
+      → Journaled behind elastic before now (suc m.player.made) calls a.written written m.player.made → Returned behind own sequence stamp m.player.made a.left b.left a.log b.log
+      → PlayerTold did seed own sequence stamp elastic before now a (with_written b written) behind
   told-last behind written speaker journal reply =
-      told did seed own sequence stamp before now (suc m.player.made) a (with_written b written) behind calls samples m.player.made
-      (marked did seed (suc m.player.made) calls samples a b written asked) made speaker journal reply
+      told did seed own sequence stamp elastic before now (suc m.player.made) a (with_written b written) behind calls samples m.player.made
+      (marked did seed elastic (suc m.player.made) calls samples a b written asked) made speaker journal reply
 
   -- the return stream was not asked
   pub unasked : b.left ≡ m.left → b.log ≡ m.log → Returned ended.Ended own sequence stamp m.player.made a.left b.left a.log b.log
@@ -129,30 +141,30 @@ module _ {S : Type 0} (did : S → Call → S → Type 0) (seed : List ℕ) (own
       (subst (λ (o : Option (List ℕ)). Returned ended.Ended own sequence stamp m.player.made a.left o a.log m.log) (sym left)
       (w.pieces, w.packets, served own sequence stamp m.player.made a.left m.left m.player.stream w.pieces w.packets w.serving, w.sent))
 
-module _ {S : Type 0} (did : S → Call → S → Type 0) (seed : List ℕ) (own sequence stamp before now : ℕ) (a m b : Standing S) (w : WholeBeats did seed own sequence stamp m.player.made a m) where
+module _ {S : Type 0} (did : S → Call → S → Type 0) (seed : List ℕ) (own sequence stamp elastic before now : ℕ) (a m b : Standing S) (w : WholeBeats did seed own sequence stamp elastic m.player.made a m) where
   pub told-speaker : (x : Beats did m b beat.SpeakerFault) (written : Option (List ℕ)) → Marked b.written written before now
-      → PlayerTold did seed own sequence stamp before now a (with_written b written) ended.SpeakerFault
+      → PlayerTold did seed own sequence stamp elastic before now a (with_written b written) ended.SpeakerFault
   told-speaker x written mark =
       let still : Marked m.written written before now = subst (λ (o : Option (List ℕ)). Marked o written before now) x.journal mark in
-      told-last did seed own sequence stamp before now a m b beat.SpeakerFault w x ended.SpeakerFault written
+      told-last did seed own sequence stamp elastic before now a m b beat.SpeakerFault w x ended.SpeakerFault written
       (speaker-part m.player.made a.heard m.heard b.heard w.samples x.played w.asked.count w.speaker x.speaker)
-      (w.calls, but-last did seed m.player.made w.calls (calls_of x.found) w.samples a m w.asked, marked-behind a.written m.written written before now (text_in w.calls) w.journal still, refl)
-      (unasked did seed own sequence stamp before now a m b beat.SpeakerFault w x x.reply.1 x.reply.2)
+      (w.calls, but-last did seed elastic m.player.made w.calls x.calls w.samples a m w.asked, marked-behind a.written m.written written before now (text_in w.calls) w.journal still, refl)
+      (unasked did seed own sequence stamp elastic before now a m b beat.SpeakerFault w x x.reply.1 x.reply.2)
 
-  pub told-journal : Beats did m b beat.JournalFault → PlayerTold did seed own sequence stamp before now a b ended.JournalFault
+  pub told-journal : Beats did m b beat.JournalFault → PlayerTold did seed own sequence stamp elastic before now a b ended.JournalFault
   told-journal x =
-      let part = journal-part a.written m.written b.written w.calls (calls_of x.found) w.journal x.journal in
-      told-last did seed own sequence stamp before now a m b beat.JournalFault w x ended.JournalFault b.written
+      let part = journal-part a.written m.written b.written w.calls x.calls w.journal x.journal in
+      told-last did seed own sequence stamp elastic before now a m b beat.JournalFault w x ended.JournalFault b.written
       (speaker-more a.heard m.heard b.heard w.samples x.played w.speaker x.speaker)
-      (inl (w.calls, part.0, but-last did seed m.player.made w.calls (calls_of x.found) w.samples a m w.asked, part.1, part.2, refl))
-      (unasked did seed own sequence stamp before now a m b beat.JournalFault w x x.reply.1 x.reply.2)
+      (inl (w.calls, part.0, but-last did seed elastic m.player.made w.calls x.calls w.samples a m w.asked, part.1, part.2, refl))
+      (unasked did seed own sequence stamp elastic before now a m b beat.JournalFault w x x.reply.1 x.reply.2)
 
   pub told-mic : (x : Beats did m b beat.MicFault) (written : Option (List ℕ)) → Marked b.written written before now
-      → PlayerTold did seed own sequence stamp before now a (with_written b written) ended.MicFault
+      → PlayerTold did seed own sequence stamp elastic before now a (with_written b written) ended.MicFault
   told-mic x written mark =
-      told-last did seed own sequence stamp before now a m b beat.MicFault w x ended.MicFault written
+      told-last did seed own sequence stamp elastic before now a m b beat.MicFault w x ended.MicFault written
       (speaker-more a.heard m.heard b.heard w.samples x.played w.speaker x.speaker)
-      (marked-behind a.written b.written written before now (text_in (w.calls ++ calls_of x.found)) (journal-more a.written m.written b.written w.calls (calls_of x.found) w.journal x.journal) mark, refl) (
+      (marked-behind a.written b.written written before now (text_in (w.calls ++ x.calls)) (journal-more a.written m.written b.written w.calls x.calls w.journal x.journal) mark, refl) (
         w.pieces,
         w.packets,
         m.left,
@@ -163,11 +175,11 @@ module _ {S : Type 0} (did : S → Call → S → Type 0) (seed : List ℕ) (own
       )
 
   pub told-reply : (x : Beats did m b beat.ReplyFault) (written : Option (List ℕ)) → Marked b.written written before now
-      → PlayerTold did seed own sequence stamp before now a (with_written b written) ended.ReplyFault
+      → PlayerTold did seed own sequence stamp elastic before now a (with_written b written) ended.ReplyFault
   told-reply x written mark =
-      told-last did seed own sequence stamp before now a m b beat.ReplyFault w x ended.ReplyFault written
+      told-last did seed own sequence stamp elastic before now a m b beat.ReplyFault w x ended.ReplyFault written
       (speaker-more a.heard m.heard b.heard w.samples x.played w.speaker x.speaker)
-      (marked-behind a.written b.written written before now (text_in (w.calls ++ calls_of x.found)) (journal-more a.written m.written b.written w.calls (calls_of x.found) w.journal x.journal) mark, refl)
+      (marked-behind a.written b.written written before now (text_in (w.calls ++ x.calls)) (journal-more a.written m.written b.written w.calls x.calls w.journal x.journal) mark, refl)
       (lost x.reply)
     where
       lost : Returns m.player.stream b.player.stream m.left b.left m.log b.log ends.ReplyFault → Returned ended.ReplyFault own sequence stamp m.player.made a.left b.left a.log b.log

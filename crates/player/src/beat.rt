@@ -1,12 +1,13 @@
 // One beat of a player.
-ghost use Rattle.std.specs.Prelude.{◌≡◌, ◌≤◌, ◌<◌, ◌+◌, ◌^◌, ℤ, List, length};
+ghost use Rattle.std.specs.Prelude.{◌≡◌, ◌⊎◌, ◌≤◌, ◌<◌, ◌+◌, ◌^◌, ℤ, List, length};
 ghost use Rattle.gate_base.specs.Faults.{HasCause, Rose};
 ghost use Rattle.gate_io.specs.Flow.{Gives};
 ghost use Rattle.substitution.specs.Heard.{sample_octets};
 ghost use Rattle.player.specs.Beats.{BeatMade, Speaks};
 ghost use Rattle.player.specs.declared.beat.Beat.{Beat};
 
-use crate::found::{item_of_found, look, opens, write_found};
+use crate::asking::ask;
+use crate::calls::{count_calls, held_after, item_of_beat, opened_after, write_calls};
 use crate::player::Player;
 use crate::return_stream::ReturnEnd;
 use byteorder::{ByteOrder, LittleEndian};
@@ -33,7 +34,8 @@ pub enum Beat {
 impl Player {
     /// Makes a beat, of 20 ms: it asks the side, gives 320 octets to the speaker in one give (160 samples of 16 bits
     /// at 8 kHz, the low octet first), gives the events to the journal, each in one give, and sends the next piece
-    /// of the microphone, in this order. A fault ends the beat. All calls on the side are counted.
+    /// of the microphone, in this order. A fault ends the beat. All calls on the side are counted. Where the player may
+    /// hold numbers, its side has two slots at least.
     pub fn beat<S: PlayerSide, I: Source, O: Sink, J: Sink, P: Link>(
         &mut self,
         side: &mut S,
@@ -43,11 +45,15 @@ impl Player {
         reply: &mut P,
     ) -> Beat
         requires made { self.old.made < 16000000 }
-        requires position { S.position side.old ≤ 2 ^ 32 + self.old.made }
+        requires slots { (self.old.elastic ≡ 0) ⊎ (1 ≤ S.g side.old) }
+        requires position { S.position side.old + self.old.held ≤ 2 ^ 32 + self.old.made }
         ensures beats { BeatMade S.PlayerSide O.Sink J.Sink I.Source P.Link self.old side.old speaker.old journal.old microphone.old reply.old self.new side.new speaker.new journal.new microphone.new reply.new result }
         ensures made { self.new.made ≡ self.old.made + 1 }
         ensures most { self.new.ticks ≡ self.old.ticks }
-        ensures position { S.position side.new ≤ 2 ^ 32 + self.new.made }
+        ensures elastic { self.new.elastic ≡ self.old.elastic }
+        ensures few { self.new.held ≤ self.new.elastic }
+        ensures slots { S.g side.new ≡ S.g side.old }
+        ensures position { S.position side.new + self.new.held ≤ 2 ^ 32 + self.new.made }
         ensures ended { P.ended reply.new ≡ P.ended reply.old }
         ensures speaker_later { O.faults speaker.old ≤ O.faults speaker.new }
         ensures speaker_fault { result ≡ Beat.SpeakerFault → Rose (O.faults speaker.old) (O.faults speaker.new) }
@@ -60,15 +66,16 @@ impl Player {
         ensures speaker_kin { O.kin speaker.old speaker.new }
         ensures journal_kin { J.kin journal.old journal.new }
     {
-        let found = look(self.opened, side);
-        let item = item_of_found(&found);
-        self.opened = opens(&found);
+        let calls = ask(self.elastic, self.held, self.opened, side);
+        let item = item_of_beat(&calls);
+        self.opened = opened_after(self.opened, &calls);
+        self.held = held_after(self.held, &calls);
         self.made += 1;
-        self.tally.item(&item);
+        count_calls(&calls, &mut self.tally);
         if let Err(Failed) = speak(&mut self.voice, item, speaker) {
             return Beat::SpeakerFault;
         }
-        if let Err(Failed) = write_found(&found, journal) {
+        if let Err(Failed) = write_calls(&calls, journal) {
             return Beat::JournalFault;
         }
         match self.stream.send(microphone, reply) {

@@ -19,6 +19,9 @@ pub struct Player {
     // Beats that were made, and how many it makes at most.
     pub(crate) made: u64,
     pub(crate) ticks: u64,
+    // Numbers that it held, less those that it retired, and how many it holds at most.
+    pub(crate) held: u32,
+    pub(crate) elastic: u32,
 }
 
 impl Model for Player {
@@ -27,18 +30,27 @@ impl Model for Player {
 
     ghost Value = { Playing };
 
-    ghost view = { λ p. record { voice = p.voice; stream = p.stream; tally = p.tally; opened = p.opened; made = p.made; ticks = p.ticks } };
+    ghost view = { λ p. record { voice = p.voice; stream = p.stream; tally = p.tally; opened = p.opened; made = p.made; ticks = p.ticks; held = p.held; elastic = p.elastic } };
 
-    ghost invariant = { λ p. p.ticks ≤ 16000000 };
+    ghost invariant = { λ p. (p.ticks ≤ 16000000) × (p.held ≤ p.elastic) × (p.held ≤ p.made) × (p.elastic ≤ 15) };
 }
 
 impl Player {
     /// A player that has made no beat, and makes `ticks` of them at most. The seed is that of its voice; its packets
-    /// are of the source `own`, the first with this sequence number and this timestamp in samples at 8 kHz.
-    pub fn new(seed: [u8; 32], own: u32, sequence: u16, stamp: u32, ticks: u64) -> Player
+    /// are of the source `own`, the first with this sequence number and this timestamp in samples at 8 kHz. It may hold
+    /// up to `elastic` numbers, and so is late by that many beats at most.
+    pub fn new(
+        seed: [u8; 32],
+        own: u32,
+        sequence: u16,
+        stamp: u32,
+        ticks: u64,
+        elastic: u32,
+    ) -> Player
         requires some { 1 ≤ ticks }
         requires most { ticks ≤ 16000000 }
-        ensures { Starts seed own sequence stamp ticks result }
+        requires elastic { elastic ≤ 15 }
+        ensures { Starts seed own sequence stamp ticks elastic result }
     {
         Player {
             voice: Voice::new(seed),
@@ -47,7 +59,17 @@ impl Player {
             opened: false,
             made: 0,
             ticks,
+            held: 0,
+            elastic,
         }
+    }
+
+    // How many numbers it holds, at most one for each beat that it has made.
+    pub(crate) fn held(&self) -> u32
+        ensures value { result ≡ self.now.held }
+        ensures few { result ≤ self.now.made }
+    {
+        self.held
     }
 
     /// What was counted of all beats.

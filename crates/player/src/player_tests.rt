@@ -1,4 +1,5 @@
 use super::*;
+use frame_codec::frame_of;
 use gate_io::{MemoryClock, MemoryLink, MemorySink, MemorySource};
 use playout::{MapLine, MapPlayer};
 use std::alloc::Global;
@@ -15,7 +16,7 @@ fn two_beats(
 ) -> Result<([Beat; 2], PlayTally, usize), Fail> {
     let mut microphone = MemorySource::new(alloc, &[0; 640], 320, mic_fails)?;
     let mut reply = MemoryLink::new(alloc, Vec::new(alloc), reply_fails, 4)?;
-    let mut player = Player::new([0; 32], 1, 0, 0, 2);
+    let mut player = Player::new([0; 32], 1, 0, 0, 2, 0);
     let mut side = MapPlayer::of(MapLine::new(alloc, 1, 6)?);
     let first = player.beat(&mut side, speaker, journal, &mut microphone, &mut reply);
     let mut line = side.back();
@@ -40,7 +41,9 @@ fn an_idle_beat_and_then_a_base_and_a_tick(rt: HostRuntime) -> Result<(), Fail> 
             ticks: 1,
             frames: 0,
             erasures: 1,
-            idle: 1
+            idle: 1,
+            held: 0,
+            retired: 0
         }
     );
     assert_eq!(rt; sent, 2);
@@ -61,7 +64,9 @@ fn a_speaker_that_fails_leaves_the_journal(rt: HostRuntime) -> Result<(), Fail> 
             ticks: 1,
             frames: 0,
             erasures: 1,
-            idle: 1
+            idle: 1,
+            held: 0,
+            retired: 0
         }
     );
     assert_eq!(rt; sent, 1);
@@ -114,6 +119,118 @@ fn each_piece_of_speech_and_each_event_is_one_give(rt: HostRuntime) -> Result<()
     Ok(())
 }
 
+const START: u64 = 4294967296;
+
+// A frame of silence, and another one.
+const Z: [u8; 33] = [
+    0xD8, 0x20, 0xA2, 0xE1, 0x5A, 0x50, 0x00, 0x49, 0x24, 0x92, 0x49, 0x24, 0x50, 0x00, 0x49, 0x24,
+    0x92, 0x49, 0x24, 0x50, 0x00, 0x49, 0x24, 0x92, 0x49, 0x24, 0x50, 0x00, 0x49, 0x24, 0x92, 0x49,
+    0x24,
+];
+
+const W: [u8; 33] = [0xD5; 33];
+
+// Three beats of a player that may hold one number. The first frame is there before the first beat, and this many
+// frames behind it, where any is told, comes another before the third.
+fn three_beats(
+    alloc: Global,
+    journal: &mut MemorySink,
+    other: Option<u32>,
+) -> Result<([Beat; 3], PlayTally), Fail> {
+    let (first, second) = (frame_of(&Z)?, frame_of(&W)?);
+    let mut speaker = MemorySink::new(alloc, 1000, &[])?;
+    let mut microphone = MemorySource::new(alloc, &[], 320, &[])?;
+    let mut reply = MemoryLink::new(alloc, Vec::new(alloc), &[], 4)?;
+    let mut player = Player::new([0; 32], 1, 0, 0, 3, 1);
+    let mut line = MapLine::new(alloc, 1, 2)?;
+    let _held = line.base(0, 1000);
+    let _filed = line.file(0, START, &first);
+    let mut side = MapPlayer::of(line);
+    let one = player.beat(
+        &mut side,
+        &mut speaker,
+        journal,
+        &mut microphone,
+        &mut reply,
+    );
+    let two = player.beat(
+        &mut side,
+        &mut speaker,
+        journal,
+        &mut microphone,
+        &mut reply,
+    );
+    let mut line = side.back();
+    if let Some(behind) = other {
+        let _filed = line.file(0, START + behind as u64, &second);
+    }
+    let mut side = MapPlayer::of(line);
+    let three = player.beat(
+        &mut side,
+        &mut speaker,
+        journal,
+        &mut microphone,
+        &mut reply,
+    );
+    Ok(([one, two, three], player.tally()))
+}
+
+// Whether the journal has the base, a frame that was found, a beat that passed, and then this.
+fn ends_with(journal: &MemorySink, octets: &[u8]) -> bool {
+    let all = journal.octets();
+    all.len() == 40 + octets.len()
+        && all.starts_with(b"\x11\0\0\x03\xE8\x15\x13\xD8\x20")
+        && all.ends_with(octets)
+}
+
+// The tally of three beats, of which one passed.
+fn one_held(ticks: u64, frames: u64, erasures: u64, retired: u64) -> PlayTally {
+    PlayTally {
+        ticks,
+        frames,
+        erasures,
+        idle: 0,
+        held: 1,
+        retired,
+    }
+}
+
+#[test]
+fn a_late_frame_is_held_for(rt: HostRuntime) -> Result<(), Fail> {
+    let mut journal = MemorySink::new(rt.alloc(), 200, &[])?;
+    let (beats, tally) = three_beats(rt.alloc(), &mut journal, Some(1))?;
+    assert_eq!(rt; beats, [Beat::Played, Beat::Played, Beat::Played]);
+    assert_eq!(rt; tally, one_held(2, 2, 0, 0));
+    let mut text = Vec::new(rt.alloc());
+    text.extend_from_slice(b"\x14\x17\0\0\x13")?;
+    text.extend_from_slice(&W)?;
+    assert!(rt; ends_with(&journal, text.as_slice()));
+    Ok(())
+}
+
+#[test]
+fn a_lost_frame_is_left_out(rt: HostRuntime) -> Result<(), Fail> {
+    let mut journal = MemorySink::new(rt.alloc(), 200, &[])?;
+    let (beats, tally) = three_beats(rt.alloc(), &mut journal, Some(2))?;
+    assert_eq!(rt; beats, [Beat::Played, Beat::Played, Beat::Played]);
+    assert_eq!(rt; tally, one_held(2, 2, 0, 1));
+    let mut text = Vec::new(rt.alloc());
+    text.extend_from_slice(b"\x14\x16\0\0\x17\0\x01\x18\x13")?;
+    text.extend_from_slice(&W)?;
+    assert!(rt; ends_with(&journal, text.as_slice()));
+    Ok(())
+}
+
+#[test]
+fn nothing_is_left_out_where_nothing_waits(rt: HostRuntime) -> Result<(), Fail> {
+    let mut journal = MemorySink::new(rt.alloc(), 200, &[])?;
+    let (beats, tally) = three_beats(rt.alloc(), &mut journal, None)?;
+    assert_eq!(rt; beats, [Beat::Played, Beat::Played, Beat::Played]);
+    assert_eq!(rt; tally, one_held(2, 1, 1, 0));
+    assert!(rt; ends_with(&journal, b"\x14\x16\0\0\x16\0\x01\x12"));
+    Ok(())
+}
+
 // A run over so many ticks of the clock, of a player that makes three beats at most.
 fn run_of(
     alloc: Global,
@@ -124,7 +241,7 @@ fn run_of(
     let mut microphone = MemorySource::new(alloc, &[0; 320], 320, &[])?;
     let mut reply = MemoryLink::new(alloc, Vec::new(alloc), &[], 4)?;
     let mut clock = MemoryClock::new(ticks);
-    let mut player = Player::new([0; 32], 1, 0, 0, 3);
+    let mut player = Player::new([0; 32], 1, 0, 0, 3, 0);
     let mut side = MapPlayer::of(MapLine::new(alloc, 1, 6)?);
     let end = player.run(
         &mut side,

@@ -29,7 +29,8 @@ pub enum PlayerEnd {
 impl Player {
     /// Makes a beat for each tick of the clock, until the clock ends, all beats are made or a fault comes, and then
     /// gives the journal its end mark, but for a journal that has failed. The journal's head is the caller's to give.
-    /// It waits as long as the clock does, and after the last beat no more.
+    /// It waits as long as the clock does, and after the last beat no more. Where the player may hold numbers, its side has
+    /// two slots at least.
     pub fn run<S: PlayerSide, I: Source, O: Sink, J: Sink, P: Link, C: TickClock>(
         &mut self,
         side: &mut S,
@@ -40,11 +41,14 @@ impl Player {
         reply: &mut P,
     ) -> PlayerEnd
         requires made { self.old.made ≡ 0 }
+        requires slots { (self.old.elastic ≡ 0) ⊎ (1 ≤ S.g side.old) }
         requires position { S.position side.old ≡ 2 ^ 32 }
         ensures told { RunTells S.PlayerSide O.Sink J.Sink I.Source P.Link self.old side.old speaker.old journal.old microphone.old reply.old self.new side.new speaker.new journal.new microphone.new reply.new result }
         ensures ran { RunEnds S.PlayerSide O.Sink J.Sink I.Source P.Link self.old side.old speaker.old journal.old microphone.old reply.old self.new side.new speaker.new journal.new microphone.new reply.new result }
         ensures ticks { C.ticks clock.new ≡ C.ticks clock.old + self.new.made }
         ensures most { self.new.ticks ≡ self.old.ticks }
+        ensures elastic { self.new.elastic ≡ self.old.elastic }
+        ensures slots { S.g side.new ≡ S.g side.old }
         ensures within { self.new.made ≤ self.old.ticks }
         ensures ended { result ≡ PlayerEnd.Ended → (C.ended clock.new ≡ true) ⊎ (self.new.made ≡ self.old.ticks) }
         ensures open { P.ended reply.new ≡ P.ended reply.old }
@@ -73,10 +77,13 @@ impl Player {
         reply: &mut P,
     ) -> PlayerEnd
         requires made { self.old.made ≡ 0 }
+        requires slots { (self.old.elastic ≡ 0) ⊎ (1 ≤ S.g side.old) }
         requires position { S.position side.old ≡ 2 ^ 32 }
         ensures ran { RunEnds S.PlayerSide O.Sink J.Sink I.Source P.Link self.old side.old speaker.old journal.old microphone.old reply.old self.new side.new speaker.new journal.new microphone.new reply.new result }
         ensures ticks { C.ticks clock.new ≡ C.ticks clock.old + self.new.made }
         ensures most { self.new.ticks ≡ self.old.ticks }
+        ensures elastic { self.new.elastic ≡ self.old.elastic }
+        ensures slots { S.g side.new ≡ S.g side.old }
         ensures within { self.new.made ≤ self.old.ticks }
         ensures ended { result ≡ PlayerEnd.Ended → (C.ended clock.new ≡ true) ⊎ (self.new.made ≡ self.old.ticks) }
         ensures open { P.ended reply.new ≡ P.ended reply.old }
@@ -123,10 +130,13 @@ impl Player {
         reply: &mut P,
     ) -> PlayerEnd
         requires made { self.old.made ≡ 0 }
+        requires slots { (self.old.elastic ≡ 0) ⊎ (1 ≤ S.g side.old) }
         requires position { S.position side.old ≡ 2 ^ 32 }
         ensures stopped { BeatsEnd S.PlayerSide O.Sink J.Sink I.Source P.Link self.old side.old speaker.old journal.old microphone.old reply.old self.new side.new speaker.new journal.new microphone.new reply.new result }
         ensures ticks { C.ticks clock.new ≡ C.ticks clock.old + self.new.made }
         ensures most { self.new.ticks ≡ self.old.ticks }
+        ensures elastic { self.new.elastic ≡ self.old.elastic }
+        ensures slots { S.g side.new ≡ S.g side.old }
         ensures within { self.new.made ≤ self.old.ticks }
         ensures ended { result ≡ PlayerEnd.Ended → (C.ended clock.new ≡ true) ⊎ (self.new.made ≡ self.old.ticks) }
         ensures open { P.ended reply.new ≡ P.ended reply.old }
@@ -141,6 +151,7 @@ impl Player {
         ensures speaker_kin { O.kin speaker.old speaker.new }
         ensures journal_kin { J.kin journal.old journal.new }
     {
+        let _few = self.held();
         while self.made < self.ticks {
             match clock.wait() {
                 TickNext::Ended => return PlayerEnd::Ended,

@@ -1,5 +1,5 @@
 use Rattle.std.proofs.Common.{◌≤◌, ap, ◌∙◌, refl, arith}
-use Rattle.player.specs.Beats.{Playing, standing}
+use Rattle.player.specs.Beats.{Playing, standing_of}
 use Rattle.player.proofs.Running.{plays-more, plays-none}
 use Rattle.player.proofs.player.Player.play_on.Goals as goal
 
@@ -9,11 +9,13 @@ loop-self-init g c =
     let journal : g.J.Sink.faults c.args.journal.now ≤ g.J.Sink.faults c.args.journal.now = omega arith in
     let mic : g.I.Source.faults c.args.microphone.now ≤ g.I.Source.faults c.args.microphone.now = omega arith in
     let reply : g.P.Link.faults c.args.reply.now ≤ g.P.Link.faults c.args.reply.now = omega arith in (
-      plays-none g.S.PlayerSide.did c.args.self.now.made (standing c.args.self.now c.args.side.now (g.S.PlayerSide.position c.args.side.now) (g.O.Sink.given c.args.speaker.now) (g.J.Sink.given c.args.journal.now) (g.I.Source.left c.args.microphone.now) (g.P.Link.log c.args.reply.now)) c.requires.made,
+      plays-none g.S.PlayerSide.did c.args.self.now.made (standing_of g.S.PlayerSide g.O.Sink g.J.Sink g.I.Source g.P.Link c.args.self.now c.args.side.now c.args.speaker.now c.args.journal.now c.args.microphone.now c.args.reply.now) c.requires.made,
       omega (arith, c.requires.made),
       refl,
       omega (arith, c.requires.made),
-      omega (arith, c.requires.made, c.requires.position),
+      omega (arith, c.requires.made, c.requires.position, c.held-few.ensures.few),
+      refl,
+      refl,
       refl,
       speaker,
       journal,
@@ -27,26 +29,28 @@ pub loop-self-preserved : goal.loop-self-preserved
 loop-self-preserved g c =
     let inv = c.loop-self.invariant in
     let e = c.beat.ensures in
-    let made = ap (λ (p : Playing). p.made) c.self.view_is in
-    let ticks = ap (λ (p : Playing). p.ticks) c.self.view_is in
-    let speaker : g.O.Sink.faults c.args.speaker.now ≤ g.O.Sink.faults c.beat.new.speaker = omega (arith, inv.6, e.speaker_later) in
-    let journal : g.J.Sink.faults c.args.journal.now ≤ g.J.Sink.faults c.beat.new.journal = omega (arith, inv.7, e.journal_later) in
-    let mic : g.I.Source.faults c.args.microphone.now ≤ g.I.Source.faults c.beat.new.microphone = omega (arith, inv.8, e.mic_later) in
-    let reply : g.P.Link.faults c.args.reply.now ≤ g.P.Link.faults c.beat.new.reply = omega (arith, inv.9, e.reply_later) in (
+    let made = ap (λ (p : Playing). p.made) c.self-in-loop-self.view_is in
+    let ticks = ap (λ (p : Playing). p.ticks) c.self-in-loop-self.view_is in
+    let speaker : g.O.Sink.faults c.args.speaker.now ≤ g.O.Sink.faults c.beat.new.speaker = omega (arith, inv.8, e.speaker_later) in
+    let journal : g.J.Sink.faults c.args.journal.now ≤ g.J.Sink.faults c.beat.new.journal = omega (arith, inv.9, e.journal_later) in
+    let mic : g.I.Source.faults c.args.microphone.now ≤ g.I.Source.faults c.beat.new.microphone = omega (arith, inv.10, e.mic_later) in
+    let reply : g.P.Link.faults c.args.reply.now ≤ g.P.Link.faults c.beat.new.reply = omega (arith, inv.11, e.reply_later) in (
       plays-more g.S.PlayerSide.did c.loop-self.self.made c.beat.new.self.made
-          (standing c.args.self.now c.args.side.now (g.S.PlayerSide.position c.args.side.now) (g.O.Sink.given c.args.speaker.now) (g.J.Sink.given c.args.journal.now) (g.I.Source.left c.args.microphone.now) (g.P.Link.log c.args.reply.now))
-          (standing c.loop-self.self c.loop-self.side (g.S.PlayerSide.position c.loop-self.side) (g.O.Sink.given c.loop-self.speaker) (g.J.Sink.given c.loop-self.journal) (g.I.Source.left c.loop-self.microphone) (g.P.Link.log c.loop-self.reply))
-          (standing c.beat.new.self c.beat.new.side (g.S.PlayerSide.position c.beat.new.side) (g.O.Sink.given c.beat.new.speaker) (g.J.Sink.given c.beat.new.journal) (g.I.Source.left c.beat.new.microphone) (g.P.Link.log c.beat.new.reply))
+          (standing_of g.S.PlayerSide g.O.Sink g.J.Sink g.I.Source g.P.Link c.args.self.now c.args.side.now c.args.speaker.now c.args.journal.now c.args.microphone.now c.args.reply.now)
+          (standing_of g.S.PlayerSide g.O.Sink g.J.Sink g.I.Source g.P.Link c.loop-self.self c.loop-self.side c.loop-self.speaker c.loop-self.journal c.loop-self.microphone c.loop-self.reply)
+          (standing_of g.S.PlayerSide g.O.Sink g.J.Sink g.I.Source g.P.Link c.beat.new.self c.beat.new.side c.beat.new.speaker c.beat.new.journal c.beat.new.microphone c.beat.new.reply)
           e.made inv.0 c.in-Played.ensures.beats,
       omega (arith, c.in-Tick.ensures.waits.0, inv.1, e.made),
       e.most ∙ inv.2,
       omega (arith, e.made, e.most, c.loop-self-test.true, made, ticks),
       e.position,
-      e.ended ∙ inv.5,
+      e.elastic ∙ inv.5,
+      e.slots ∙ inv.6,
+      e.ended ∙ inv.7,
       speaker,
       journal,
       mic,
       reply,
-      g.met.O.Sink.kin_after c.args.speaker.now c.loop-self.speaker c.beat.new.speaker inv.10 e.speaker_kin,
-      g.met.J.Sink.kin_after c.args.journal.now c.loop-self.journal c.beat.new.journal inv.11 e.journal_kin,
+      g.met.O.Sink.kin_after c.args.speaker.now c.loop-self.speaker c.beat.new.speaker inv.12 e.speaker_kin,
+      g.met.J.Sink.kin_after c.args.journal.now c.loop-self.journal c.beat.new.journal inv.13 e.journal_kin,
     )
