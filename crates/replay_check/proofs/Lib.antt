@@ -1,11 +1,13 @@
 pub mod Frames
 pub mod Removed
 pub mod Sooner
+pub mod Absences
 pub mod Greedy
 pub mod OneOrder
 pub mod Places
-pub mod Sofar
 pub mod Recordings
+pub mod Denied
+pub mod Sofar
 pub mod Numbered
 pub mod Playing
 pub mod Rendered

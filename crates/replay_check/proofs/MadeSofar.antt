@@ -20,7 +20,7 @@ use Rattle.recorder.specs.declared.events.ScriptEvent.TheVariants.{Tick, File}
 use Rattle.recorder.specs.Files.{end_mark}
 use Rattle.recorder.specs.Heads.{head_text, script_magic}
 use Rattle.recorder.specs.Script.{event_text, script_text}
-use Rattle.recorder.specs.Tallies.{call_items, call_replies, play_tally, reply_tally, item_counted, reply_counted}
+use Rattle.recorder.specs.Tallies.{call_replies, play_tally, reply_tally, call_counted, reply_counted}
 use Rattle.recorder.specs.TallyLaws.{play_tally-more, reply_tally-more}
 use Rattle.replay_check.specs.Generator.{made_events, made_file, made_heading, made_script, seed_key}
 use Rattle.replay_check.specs.Made.{AreCalls, AreTallies}
@@ -34,7 +34,7 @@ pub record Sofar (key : List ℕ) (filers n : ℕ) (run : Played) (before now : 
   pub line : run.line ≡ record { filers = filers; g = 6; machine = after_all opening_machine history }
   pub slow : run.line.machine.position ≤ 4294967296 + n
   pub given : Appends before now (script_text (made_heading filers) (made_events key filers n))
-  pub items : run.items ≡ play_tally (flat_map call_items (calls_of filers history))
+  pub items : run.items ≡ play_tally (calls_of filers history)
   pub replies : run.replies ≡ reply_tally (flat_map call_replies (calls history))
 
 AreCalls-append : (filers : ℕ) (es ds : List ScriptEvent) (h k : List Entry) → AreCalls filers es h → AreCalls filers ds k → AreCalls filers (es ++ ds) (h ++ k)
@@ -47,9 +47,6 @@ of-own who c = rw (eq-eqb who who refl) refl
 
 of-other : (who other : ℕ) (c : Call) (h : List Entry) → other < who → calls_of who (entry other c ∷ h) ≡ calls_of who h
 of-other who other c h lt = rw (ne_eqb other who (λ same. omega arith)) refl
-
-of-more : {A : Type 0} (f : Call → List A) (who : ℕ) (h k : List Entry) → flat_map f (calls_of who (h ++ k)) ≡ flat_map f (calls_of who h) ++ flat_map f (calls_of who k)
-of-more f who h k = ap (flat_map f) (calls_of-append who h k) ∙ flat_map-append f (calls_of who h) (calls_of who k)
 
 all-more : {A : Type 0} (f : Call → List A) (h k : List Entry) → flat_map f (calls (h ++ k)) ≡ flat_map f (calls h) ++ flat_map f (calls k)
 all-more f h k = ap (flat_map f) (calls-append h k) ∙ flat_map-append f (calls h) (calls k)
@@ -93,8 +90,8 @@ sofar-more key filers n run run' before now now' history caller number frame s i
       slow = omega (arith, ap (λ (l : Line). l.machine.position) p.line, filed-position run.line.machine number frame p.reply, s.slow);
       given = subst (Appends before now') (sym (text-more key filers n ∙ ap (λ (e : ScriptEvent). script_text (made_heading filers) (made_events key filers n) ++ (event_text e ++ event_text Tick)) (sym is)))
           (Appends-trans before now now' (script_text (made_heading filers) (made_events key filers n)) (event_text (File caller number frame) ++ event_text Tick) s.given gave);
-      items = p.items ∙ ap (λ t. item_counted t p.item) s.items ∙ sym (play_tally-more (flat_map call_items (calls_of filers history)) p.item)
-          ∙ ap (λ (cs : List Call). play_tally (flat_map call_items (calls_of filers history) ++ flat_map call_items cs)) (sym own) ∙ ap play_tally (sym (of-more call_items filers history made));
+      items = p.items ∙ ap (λ t. call_counted t d) s.items ∙ sym (play_tally-more (calls_of filers history) d)
+          ∙ ap (λ (cs : List Call). play_tally (calls_of filers history ++ cs)) (sym own) ∙ ap play_tally (sym (calls_of-append filers history made));
       replies = p.replies ∙ ap (λ t. reply_counted t p.reply) s.replies ∙ sym (reply_tally-more (flat_map call_replies (calls history)) p.reply) ∙ ap reply_tally (sym (all-more call_replies history made));
     }
 

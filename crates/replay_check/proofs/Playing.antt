@@ -10,6 +10,7 @@ use Rattle.byteorder.specs.Endian.{little_bytes}
 use Rattle.gate_io.specs.Flow.{AppendsPart}
 use Rattle.gate_io.specs.FlowLaws.{AppendsPart-after}
 use Rattle.frame_codec.specs.declared.item.Item.{Item}
+use Rattle.playout.specs.declared.call.Call.{Call}
 use Rattle.recorder.specs.declared.events.PlayEvent.{PlayEvent}
 use Rattle.recorder.specs.declared.fault.RecordFault.{RecordFault}
 use Rattle.recorder.specs.declared.tally.PlayTally.{PlayTally}
@@ -20,6 +21,7 @@ use Rattle.recorder.specs.Play.{AllPlayFit, PlayFits, may_open, play_event_text,
 use Rattle.recorder.specs.Reader.{PlayProgress, stepped_play}
 use Rattle.recorder.specs.Tallies.{play_tally}
 use Rattle.substitution.specs.Heard.{Sounding, Voices, sample_octets}
+use Rattle.replay_check.specs.Journals.{play_of, plays_in}
 use Rattle.replay_check.specs.Render.{BreaksOff, Follows, Played, StopsShort, TookEvent, event_items, items_of}
 use Rattle.replay_check.specs.declared.rendering.RenderEnd.TheVariants.{Done, Refused, ReadFault, WriteFault}
 
@@ -29,7 +31,7 @@ journal h events = record { head = h; events = events }
 -- these events were read and played
 pub record Playing (seed : List ℕ) (h : Heading) (reader : PlayProgress) (voice : Sounding) (tally : PlayTally) (input left before now : Option (List ℕ)) (events : List PlayEvent) (samples : List ℤ) : Type 0 where
   pub heading : IsHeading h
-  pub fits : AllPlayFit true events
+  pub fits : AllPlayFit h.g true events
   pub few : length events ≤ event_limit
   pub head : reader.reading.head ≡ Some h
   pub over : reader.reading.over ≡ None
@@ -38,12 +40,12 @@ pub record Playing (seed : List ℕ) (h : Heading) (reader : PlayProgress) (voic
   pub order : reader.opening ≡ opening_behind true events
   pub taken : Consumes input left (flat_map play_event_text events)
   pub voices : Voices seed (items_of events) samples voice
-  pub counted : tally ≡ play_tally (items_of events)
+  pub counted : tally ≡ play_tally (plays_in events)
   pub given : Appends before now (sample_octets samples)
 
-fits-more : (opening : Bool) (es : List PlayEvent) (e : PlayEvent) → AllPlayFit opening es → PlayFits (opening_behind opening es) e → AllPlayFit opening (es ++ e ∷ [])
-fits-more opening [] e all fits = (fits, tt)
-fits-more opening (x ∷ es) e all fits = (all.0, fits-more (may_open x) es e all.1 fits)
+fits-more : (g : ℕ) (opening : Bool) (es : List PlayEvent) (e : PlayEvent) → AllPlayFit g opening es → PlayFits g (opening_behind opening es) e → AllPlayFit g opening (es ++ e ∷ [])
+fits-more g opening [] e all fits = (fits, tt)
+fits-more g opening (x ∷ es) e all fits = (all.0, fits-more g (may_open x) es e all.1 fits)
 
 order-more : (opening : Bool) (es : List PlayEvent) (e : PlayEvent) → opening_behind opening (es ++ e ∷ []) ≡ may_open e
 order-more opening [] e = refl
@@ -52,6 +54,10 @@ order-more opening (x ∷ es) e = order-more (may_open x) es e
 -- what one more event adds to what is made event by event
 flat-more : {A B : Type 0} (f : A → List B) (xs : List A) (x : A) → flat_map f (xs ++ x ∷ []) ≡ flat_map f xs ++ f x
 flat-more f xs x = flat_map-append f xs (x ∷ []) ∙ ap (λ l. flat_map f xs ++ l) (append-nil (f x))
+
+plays-more : (es : List PlayEvent) (e : PlayEvent) → plays_in (es ++ e ∷ []) ≡ plays_in es ++ play_of e ∷ []
+plays-more [] e = refl
+plays-more (x ∷ es) e = ap (λ (l : List Call). play_of x ∷ l) (plays-more es e)
 
 front-more : (h : Heading) (es : List PlayEvent) (e : PlayEvent) → player_front (journal h (es ++ e ∷ [])) ≡ player_front (journal h es) ++ play_event_text e
 front-more h es e = ap (λ (l : List ℕ). head_text play_magic h ++ l) (flat-more play_event_text es e) ∙ sym (append_assoc (head_text play_magic h) (flat_map play_event_text es) (play_event_text e))
@@ -70,10 +76,10 @@ nothing-said None = tt
 nothing-said (Some x) = tt
 
 module _ (seed : List ℕ) (h : Heading) (reader reader' : PlayProgress) (voice voice' : Sounding) (tally tally' : PlayTally) (input left left' before given given' : Option (List ℕ)) (events : List PlayEvent) (samples speech : List ℤ) (e : PlayEvent)
-    (s : Playing seed h reader voice tally input left before given events samples) (fits : PlayFits reader.opening e) (few : reader.reading.count < event_limit) (taken : Consumes left left' (play_event_text e))
+    (s : Playing seed h reader voice tally input left before given events samples) (fits : PlayFits h.g reader.opening e) (few : reader.reading.count < event_limit) (taken : Consumes left left' (play_event_text e))
     (voices : Voices seed (items_of events ++ event_items e) (samples ++ speech) voice') where
-  more-fits : AllPlayFit true (events ++ e ∷ [])
-  more-fits = fits-more true events e s.fits (subst (λ (b : Bool). PlayFits b e) s.order fits)
+  more-fits : AllPlayFit h.g true (events ++ e ∷ [])
+  more-fits = fits-more h.g true events e s.fits (subst (λ (b : Bool). PlayFits h.g b e) s.order fits)
 
   more-few : length (events ++ e ∷ []) ≤ event_limit
   more-few = omega (arith, length-append events (e ∷ []), s.count)
@@ -84,7 +90,7 @@ module _ (seed : List ℕ) (h : Heading) (reader reader' : PlayProgress) (voice 
   more-voices : Voices seed (items_of (events ++ e ∷ [])) (samples ++ speech) voice'
   more-voices = subst (λ (l : List Item). Voices seed l (samples ++ speech) voice') (sym (flat-more event_items events e)) voices
 
-  pub playing-more : reader' ≡ stepped_play reader (Ok (Some e)) → tally' ≡ play_tally (items_of events ++ event_items e) → Appends given given' (sample_octets speech)
+  pub playing-more : reader' ≡ stepped_play reader (Ok (Some e)) → tally' ≡ play_tally (plays_in events ++ play_of e ∷ []) → Appends given given' (sample_octets speech)
       → Playing seed h reader' voice' tally' input left' before given' (events ++ e ∷ []) (samples ++ speech)
   playing-more read counted gave = record {
     heading = s.heading;
@@ -97,7 +103,7 @@ module _ (seed : List ℕ) (h : Heading) (reader reader' : PlayProgress) (voice 
     order = ap (λ (r : PlayProgress). r.opening) read ∙ sym (order-more true events e);
     taken = more-taken;
     voices = more-voices;
-    counted = counted ∙ ap play_tally (sym (flat-more event_items events e));
+    counted = counted ∙ ap play_tally (sym (plays-more events e));
     given = subst (Appends before given') (sym (octets-more samples speech)) (Appends-trans before given given' (sample_octets samples) (sample_octets speech) s.given gave);
   }
 
@@ -140,7 +146,7 @@ module _ (seed : List ℕ) (h : Heading) (reader : PlayProgress) (voice : Soundi
       marked (Some x) (Some y) p = (y, p)
 
   -- what is left has a fault at its front
-  pub playing-refused : (f : RecordFault) → IfSome left (λ octets. play_fault_at reader.opening reader.reading.count reader.reading.at octets ≡ Some f)
+  pub playing-refused : (f : RecordFault) → IfSome left (λ octets. play_fault_at h.g reader.opening reader.reading.count reader.reading.at octets ≡ Some f)
       → Played seed (flat_map play_event_text events) (Refused f) input before now (journal h events) samples
   playing-refused f fault = record {
     fits = record { head = s.heading; events = s.fits; few = s.few };
@@ -150,10 +156,10 @@ module _ (seed : List ℕ) (h : Heading) (reader : PlayProgress) (voice : Soundi
     tallied = tt;
   }
     where
-      after : (left : Option (List ℕ)) → IfSome left (λ octets. play_fault_at reader.opening reader.reading.count reader.reading.at octets ≡ Some f) → IfSome left (Follows (Refused f) (journal h events))
+      after : (left : Option (List ℕ)) → IfSome left (λ octets. play_fault_at h.g reader.opening reader.reading.count reader.reading.at octets ≡ Some f) → IfSome left (Follows (Refused f) (journal h events))
       after None p = tt
-      after (Some x) p = subst (λ (b : Bool). play_fault_at b (length events) (length (player_front (journal h events))) x ≡ Some f) s.order
-          (subst (λ (n : ℕ). play_fault_at reader.opening n (length (player_front (journal h events))) x ≡ Some f) s.count (subst (λ (n : ℕ). play_fault_at reader.opening reader.reading.count n x ≡ Some f) s.at p))
+      after (Some x) p = subst (λ (b : Bool). play_fault_at h.g b (length events) (length (player_front (journal h events))) x ≡ Some f) s.order
+          (subst (λ (n : ℕ). play_fault_at h.g reader.opening n (length (player_front (journal h events))) x ≡ Some f) s.count (subst (λ (n : ℕ). play_fault_at h.g reader.opening reader.reading.count n x ≡ Some f) s.at p))
 
   -- a read failed
   pub playing-stopped : Played seed (flat_map play_event_text events) ReadFault input before now (journal h events) samples

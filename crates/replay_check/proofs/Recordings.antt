@@ -187,20 +187,32 @@ filers_in (Empty ∷ es) fits = filers_in es fits.1
 shut : (b : Bool) → b ≡ true → b ≡ false → ⊥
 shut b yes' no' = let bad : true ≡ false = sym yes' ∙ no' in cc
 
--- where Idle and Base may not come all are ticks
-later_in : (opening : Bool) (es : List PlayEvent) → opening ≡ false → AllPlayFit opening es → AllLater (plays_in es)
-later_in opening [] closed all = tt
-later_in opening (play.Idle ∷ es) closed all = absurd (shut opening all.0 closed)
-later_in opening (play.Base base ∷ es) closed all = absurd (shut opening all.0.0 closed)
-later_in opening (play.Erasure ∷ es) closed all = (tt, later_in false es refl all.1)
-later_in opening (play.Frame f ∷ es) closed all = (tt, later_in false es refl all.1)
+-- where Idle and Base may not come all are ticks, looks, holds and retires
+later_in : (g : ℕ) (opening : Bool) (es : List PlayEvent) → opening ≡ false → AllPlayFit g opening es → AllLater (plays_in es)
+later_in g opening [] closed all = tt
+later_in g opening (play.Idle ∷ es) closed all = absurd (shut opening all.0 closed)
+later_in g opening (play.Base base ∷ es) closed all = absurd (shut opening all.0.0 closed)
+later_in g opening (play.Erasure ∷ es) closed all = (tt, later_in g false es refl all.1)
+later_in g opening (play.Frame f ∷ es) closed all = (tt, later_in g false es refl all.1)
+later_in g opening (play.Held ∷ es) closed all = (tt, later_in g false es refl all.1)
+later_in g opening (play.Found ∷ es) closed all = (tt, later_in g false es refl all.1)
+later_in g opening (play.LookFree ahead ∷ es) closed all = (tt, later_in g false es refl all.1)
+later_in g opening (play.LookFilled ahead ∷ es) closed all = (tt, later_in g false es refl all.1)
+later_in g opening (play.RetiredErasure ∷ es) closed all = (tt, later_in g false es refl all.1)
+later_in g opening (play.RetiredFrame f ∷ es) closed all = (tt, later_in g false es refl all.1)
 
-players_in : (opening : Bool) (es : List PlayEvent) → AllPlayFit opening es → IsPlayers (plays_in es)
-players_in opening [] all = tt
-players_in opening (play.Idle ∷ es) all = inl (refl, players_in true es all.1)
-players_in opening (play.Base base ∷ es) all = inr (tt, later_in false es refl all.1)
-players_in opening (play.Erasure ∷ es) all = inr (tt, later_in false es refl all.1)
-players_in opening (play.Frame f ∷ es) all = inr (tt, later_in false es refl all.1)
+players_in : (g : ℕ) (opening : Bool) (es : List PlayEvent) → AllPlayFit g opening es → IsPlayers (plays_in es)
+players_in g opening [] all = tt
+players_in g opening (play.Idle ∷ es) all = inl (refl, players_in g true es all.1)
+players_in g opening (play.Base base ∷ es) all = inr (tt, later_in g false es refl all.1)
+players_in g opening (play.Erasure ∷ es) all = inr (tt, later_in g false es refl all.1)
+players_in g opening (play.Frame f ∷ es) all = inr (tt, later_in g false es refl all.1)
+players_in g opening (play.Held ∷ es) all = inr (tt, later_in g false es refl all.1)
+players_in g opening (play.Found ∷ es) all = inr (tt, later_in g false es refl all.1)
+players_in g opening (play.LookFree ahead ∷ es) all = inr (tt, later_in g false es refl all.1)
+players_in g opening (play.LookFilled ahead ∷ es) all = inr (tt, later_in g false es refl all.1)
+players_in g opening (play.RetiredErasure ∷ es) all = inr (tt, later_in g false es refl all.1)
+players_in g opening (play.RetiredFrame f ∷ es) all = inr (tt, later_in g false es refl all.1)
 
 -- one journal more is in its ranges
 pub fits-step : (fs : List FilerRecord) (i : ℕ) (x : FilerRecord) → i < length fs → x ≡ get_or fs i x → AllRecordsFit (take i fs) → FilerRecordFits x → AllRecordsFit (take (i + 1) fs)
@@ -221,7 +233,7 @@ are_journals fs p all fits = record { filer = λ k below. filer fs all k below; 
     filer (f ∷ fs) all (suc k) below = filer fs all.1 k (omega arith)
 
     player : (fs : List FilerRecord) → IsPlayers (journal_lists fs p (length fs))
-    player [] = players_in true p.events fits.events
+    player [] = players_in p.head.g true p.events fits.events
     player (f ∷ fs) = player fs
 
 calls-few : (es : List FilerEvent) → length (calls_in es) ≤ length es

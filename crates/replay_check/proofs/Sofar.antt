@@ -1,17 +1,21 @@
 -- What the loop that follows the rule keeps.
-use Rattle.std.proofs.Common.{◌≡◌, ◌≢◌, ℕ, zero, suc, ◌+◌, ◌<◌, ◌≤◌, List, [], ◌∷◌, ◌++◌, length, drop, get_or, set, slice_index, None, refl, sym, ap, ◌∙◌, subst, inl, inr, arith, ◌^◌, get_or-set_other, get_or-set_same}
+use Rattle.std.proofs.Common.{◌≡◌, ◌≢◌, ℕ, zero, suc, ◌+◌, ◌<◌, ◌≤◌, List, [], ◌∷◌, ◌++◌, length, drop, take, set, slice_index, Some, None, refl, sym, ap, ◌∙◌, subst, inl, inr, arith, ◌^◌, get_or-set_other, get_or-set_same}
 use native.Mathlib.Decide.{ℕ_discrete}
 use Rattle.playout.specs.declared.reply.FileReply.{FileReply}
-use Rattle.playout.specs.declared.reply.FileReply.TheVariants.{Accepted, Duplicate, Late, Beyond}
 use Rattle.playout.specs.declared.call.Call.{Call}
-use Rattle.playout.specs.declared.call.Call.TheVariants.{FileCall, SourceCall, BaseCall, PeekCall, TickCall}
+use Rattle.playout.specs.declared.call.Call.TheVariants.{FileCall, SourceCall, BaseCall, PeekCall, TickCall, LookCall, HoldCall, RetireCall}
 use Rattle.replay_check.specs.Making.{IsMakeable}
 use Rattle.playout.specs.Machine.{Machine, opening_machine, after}
+use Rattle.playout.specs.History.{moves, move_weight}
+use Rattle.playout.specs.HeldFrames.{call-position}
 use Rattle.replay_check.specs.Verdict.{Lists, Lawful, HasOrder}
 use Rattle.replay_check.specs.Rule.{IsNext, Can, IsTaken, without, Follows, NothingLeft, IsStuck, AreJournals, IsFilers, AllFilers, IsPlayers}
 use Rattle.recorder.specs.Journals.{FilerRecord, PlayerRecord}
 use Rattle.replay_check.specs.Journals.{filer_calls, journal_lists, plays_in}
-use Rattle.replay_check.specs.Lists.{left_of, count_left}
+use Rattle.replay_check.specs.Denials.{number_at}
+use Rattle.replay_check.specs.Lists.{left_of, count_left, first_of}
+use Rattle.replay_check.proofs.Absences.{filers-stay}
+use Rattle.replay_check.proofs.Denied.{moves-few, moves-more, take-more}
 use Rattle.replay_check.proofs.Removed.{same_tail, not_empty}
 use Rattle.replay_check.proofs.Greedy.{without-own, without-others, follows-lawful, follows-unlawful, rest-players}
 
@@ -54,7 +58,7 @@ moved-at lists at who c rest below is k = go (ℕ_discrete k who)
         ∙ ap (λ n. drop n (lists who)) (sym (get_or-set_same at who (slice_index at who + 1) 0 below)) ∙ ap (left_of lists (set at who (slice_index at who + 1))) (sym same)
     go (no other) = without-others (left_of lists at) who rest k other ∙ ap (λ n. drop n (lists k)) (sym (get_or-set_other at who k (slice_index at who + 1) 0 other))
 
-pub sofar-more : (r filers : ℕ) (lists : Lists) (m : Machine) (at order : List ℕ) (who : ℕ) (c : Call) (rest : List Call) → who < length at → Sofar r filers lists m at order → IsTaken r filers m (left_of lists at) who → IsNext r m (left_of lists at) who c rest
+pub sofar-more : (r filers : ℕ) (lists : Lists) (m : Machine) (at order : List ℕ) (who : ℕ) (c : Call) (rest : List Call) → who < length at → Sofar r filers lists m at order → IsTaken r filers m (left_of lists at) who → IsNext r filers m (left_of lists at) who c rest
     → Sofar r filers lists (after m c) (set at who (slice_index at who + 1)) (order ++ who ∷ [])
 sofar-more r filers lists m at order who c rest below sofar taken next = record {
   follows = follows-snoc r filers opening_machine lists order m (left_of lists at) who (At (after m c) (left_of lists (set at who (slice_index at who + 1)))) sofar.follows (taken, (c, rest, next, (refl, λ i k. moved-at lists at who c rest below next.next k i)));
@@ -83,13 +87,13 @@ fewer_step fs p at who n c rest below value is = subst (λ k. count_left fs p (s
 pub room_step : (lists : Lists) (at : List ℕ) (who n : ℕ) (c : Call) (rest : List Call) → n ≡ slice_index at who → left_of lists at who ≡ c ∷ rest → n + 1 ≤ length (lists who)
 room_step lists at who n c rest value is = let w = drop-within (lists who) (slice_index at who) c rest is in omega (arith, value)
 
-pub sofar-step : (r q filers : ℕ) (lists : Lists) (m m' : Machine) (at order order' : List ℕ) (who n : ℕ) (c : Call) (rest : List Call) → q ≡ r → who < length at → Sofar r filers lists m at order → IsTaken q filers m (left_of lists at) who → IsNext q m (left_of lists at) who c rest
+pub sofar-step : (r q filers : ℕ) (lists : Lists) (m m' : Machine) (at order order' : List ℕ) (who n : ℕ) (c : Call) (rest : List Call) → q ≡ r → who < length at → Sofar r filers lists m at order → IsTaken q filers m (left_of lists at) who → IsNext q filers m (left_of lists at) who c rest
     → n ≡ slice_index at who → m' ≡ after m c → order' ≡ order ++ who ∷ [] → Sofar r filers lists m' (set at who (n + 1)) order'
 sofar-step r q filers lists m m' at order order' who n c rest same below sofar taken next value made longer =
     subst (λ (o : List ℕ). Sofar r filers lists m' (set at who (n + 1)) o) (sym longer)
     (subst (λ (x : Machine). Sofar r filers lists x (set at who (n + 1)) (order ++ who ∷ [])) (sym made)
     (subst (λ (k : ℕ). Sofar r filers lists (after m c) (set at who (k + 1)) (order ++ who ∷ [])) (sym value)
-    (sofar-more r filers lists m at order who c rest below sofar (subst (λ k. IsTaken k filers m (left_of lists at) who) same taken) (subst (λ k. IsNext k m (left_of lists at) who c rest) same next))))
+    (sofar-more r filers lists m at order who c rest below sofar (subst (λ k. IsTaken k filers m (left_of lists at) who) same taken) (subst (λ k. IsNext k filers m (left_of lists at) who c rest) same next))))
 
 length-drop_at : (l : List Call) (a : ℕ) → a ≤ length l → a + length (drop a l) ≡ length l
 length-drop_at l zero le = omega arith
@@ -107,7 +111,7 @@ drop-past [] (suc a) le = refl
 drop-past (x ∷ l) zero le = absurd (omega arith)
 drop-past (x ∷ l) (suc a) le = drop-past l a (omega arith)
 
-pub illegal : (r q filers : ℕ) (lists : Lists) (m : Machine) (at order : List ℕ) (who place : ℕ) → q ≡ r → Sofar r filers lists m at order → AreJournals filers lists → ((k : ℕ) → k < filers + 1 → Can q m (left_of lists at) k → ⊥)
+pub illegal : (r q filers : ℕ) (lists : Lists) (m : Machine) (at order : List ℕ) (who place : ℕ) → q ≡ r → Sofar r filers lists m at order → AreJournals filers lists → ((k : ℕ) → k < filers + 1 → Can q filers m (left_of lists at) k → ⊥)
     → who ≤ filers → ((k : ℕ) → k < who → left_of lists at k ≡ []) → place ≡ slice_index at who → place < length (lists who)
     → (Lawful r filers opening_machine lists → ⊥) × ((steps : List ℕ) × Follows r filers opening_machine lists steps (IsStuck r filers lists who place))
 illegal r q filers lists m at order who place same sofar journals none known first value less =
@@ -115,7 +119,7 @@ illegal r q filers lists m at order who place same sofar journals none known fir
   where
     stuck : Follows r filers opening_machine lists order (IsStuck r filers lists who place)
     stuck = follows-end r filers opening_machine lists order m (left_of lists at) (IsStuck r filers lists who place) sofar.follows (record {
-      none = λ k within can. none k (omega arith) (subst (λ j. Can j m (left_of lists at) k) (sym same) can);
+      none = λ k within can. none k (omega arith) (subst (λ j. Can j filers m (left_of lists at) k) (sym same) can);
       known = known;
       some = drop-some (lists who) (slice_index at who) (omega (arith, value));
       first = first;
@@ -129,21 +133,16 @@ legal r filers lists m at order sofar nothing = (follows-lawful r filers opening
     done : Follows r filers opening_machine lists order (NothingLeft filers)
     done = follows-end r filers opening_machine lists order m (left_of lists at) (NothingLeft filers) sofar.follows (λ k within. nothing k (omega arith))
 
-pub value_at : (l : List ℕ) (i x : ℕ) → i < length l → x ≡ get_or l i x → x ≡ slice_index l i
-value_at [] i x below is = absurd (omega arith)
-value_at (y ∷ l) zero x below is = is
-value_at (y ∷ l) (suc i) x below is = value_at l i x (omega arith) is
-
 -- the choice was made from the same places
-pub pick-at : (q filers : ℕ) (m : Machine) (lists : Lists) (seen at : List ℕ) (who : ℕ) (c : Call) → seen ≡ at → IsTaken q filers m (left_of lists seen) who × ((rest : List Call) × IsNext q m (left_of lists seen) who c rest)
-    → IsTaken q filers m (left_of lists at) who × ((rest : List Call) × IsNext q m (left_of lists at) who c rest)
-pick-at q filers m lists seen at who c same p = subst (λ (a : List ℕ). IsTaken q filers m (left_of lists a) who × ((rest : List Call) × IsNext q m (left_of lists a) who c rest)) same p
+pub pick-at : (q filers : ℕ) (m : Machine) (lists : Lists) (seen at : List ℕ) (who : ℕ) (c : Call) → seen ≡ at → IsTaken q filers m (left_of lists seen) who × ((rest : List Call) × IsNext q filers m (left_of lists seen) who c rest)
+    → IsTaken q filers m (left_of lists at) who × ((rest : List Call) × IsNext q filers m (left_of lists at) who c rest)
+pick-at q filers m lists seen at who c same p = subst (λ (a : List ℕ). IsTaken q filers m (left_of lists a) who × ((rest : List Call) × IsNext q filers m (left_of lists a) who c rest)) same p
 
-pub illegal-at : (r q filers : ℕ) (lists : Lists) (m : Machine) (seen places at order : List ℕ) (who : ℕ) → q ≡ r → seen ≡ at → places ≡ at → Sofar r filers lists m at order → AreJournals filers lists → ((k : ℕ) → k < filers + 1 → Can q m (left_of lists seen) k → ⊥)
+pub illegal-at : (r q filers : ℕ) (lists : Lists) (m : Machine) (seen places at order : List ℕ) (who : ℕ) → q ≡ r → seen ≡ at → places ≡ at → Sofar r filers lists m at order → AreJournals filers lists → ((k : ℕ) → k < filers + 1 → Can q filers m (left_of lists seen) k → ⊥)
     → who ≤ filers → ((k : ℕ) → k < who → left_of lists places k ≡ []) → slice_index places who < length (lists who)
     → (Lawful r filers opening_machine lists → ⊥) × ((steps : List ℕ) × Follows r filers opening_machine lists steps (IsStuck r filers lists who (slice_index places who)))
 illegal-at r q filers lists m seen places at order who same is in_places sofar journals none known first less =
-    illegal r q filers lists m at order who (slice_index places who) same sofar journals (λ k below can. none k below (subst (λ (a : List ℕ). Can q m (left_of lists a) k) (sym is) can)) known
+    illegal r q filers lists m at order who (slice_index places who) same sofar journals (λ k below can. none k below (subst (λ (a : List ℕ). Can q filers m (left_of lists a) k) (sym is) can)) known
     (λ k below. subst (λ (a : List ℕ). left_of lists a k ≡ []) in_places (first k below)) (ap (λ (a : List ℕ). slice_index a who) in_places) less
 
 pub legal-at : (r filers : ℕ) (lists : Lists) (m : Machine) (places at order : List ℕ) → places ≡ at → Sofar r filers lists m at order → ((k : ℕ) → k < filers + 1 → left_of lists places k ≡ [])
@@ -182,42 +181,30 @@ makeable filers lists at who position (SourceCall x held) rest journals known is
 makeable filers lists at who position (BaseCall x held) rest journals known is far within short = tt
 makeable filers lists at who position (PeekCall held) rest journals known is far within short = tt
 makeable filers lists at who position (TickCall item) rest journals known is far within short = omega arith
+makeable filers lists at who position (LookCall ahead filled) rest journals known is far within short = tt
+makeable filers lists at who position (HoldCall held) rest journals known is far within short = tt
+makeable filers lists at who position (RetireCall item) rest journals known is far within short = omega arith
 
-filers-stay : (m : Machine) (c : Call) → IsFilers c → (after m c).position ≡ m.position
-filers-stay m (FileCall n f Accepted) is = refl
-filers-stay m (FileCall n f Duplicate) is = refl
-filers-stay m (FileCall n f (Late x)) is = refl
-filers-stay m (FileCall n f (Beyond x)) is = refl
-filers-stay m (SourceCall x held) is = refl
-filers-stay m (BaseCall x held) is = refl
-filers-stay m (PeekCall held) is = refl
-filers-stay m (TickCall item) is = absurd is
+-- where so many of the player's calls were taken, at most so many of them moved on
+pub far_at : (plays : List Call) (n position : ℕ) → position ≡ number_at plays n → position ≤ 4294967296 + n
+far_at plays n position is = omega (arith, is, moves-few plays n)
 
-one-more : (m : Machine) (c : Call) → (after m c).position ≤ m.position + 1
-one-more m (FileCall n f Accepted) = omega arith
-one-more m (FileCall n f Duplicate) = omega arith
-one-more m (FileCall n f (Late x)) = omega arith
-one-more m (FileCall n f (Beyond x)) = omega arith
-one-more m (SourceCall x held) = omega arith
-one-more m (BaseCall x held) = omega arith
-one-more m (PeekCall held) = omega arith
-one-more m (TickCall item) = omega arith
-
--- no tick but the player's moves the position
-pub far-more : (filers : ℕ) (lists : Lists) (m m' : Machine) (at : List ℕ) (who n : ℕ) (c : Call) (rest : List Call) → AreJournals filers lists → who ≤ filers → who < length at → left_of lists at who ≡ c ∷ rest
-    → n ≡ slice_index at who → m' ≡ after m c → m.position ≤ 4294967296 + slice_index at filers → m'.position ≤ 4294967296 + slice_index (set at who (n + 1)) filers
-far-more filers lists m m' at who n c rest journals known below is value made far = go (ℕ_discrete who filers)
+-- the line stands at the number of the player's next tick or retire
+pub here-more : (filers : ℕ) (lists : Lists) (plays : List Call) (m m' : Machine) (at : List ℕ) (who n : ℕ) (c : Call) (rest : List Call) → lists filers ≡ plays → AreJournals filers lists → who ≤ filers → who < length at → left_of lists at who ≡ c ∷ rest
+    → n ≡ slice_index at who → m' ≡ after m c → m.position ≡ number_at plays (slice_index at filers) → m'.position ≡ number_at plays (slice_index (set at who (n + 1)) filers)
+here-more filers lists plays m m' at who n c rest own journals known below is value made here = go (ℕ_discrete who filers)
   where
-    position : m'.position ≡ (after m c).position
-    position = ap (λ (x : Machine). x.position) made
+    position : m'.position ≡ m.position + move_weight c
+    position = ap (λ (x : Machine). x.position) made ∙ call-position m c
 
-    go : Dec (who ≡ filers) → m'.position ≤ 4294967296 + slice_index (set at who (n + 1)) filers
+    go : Dec (who ≡ filers) → m'.position ≡ number_at plays (slice_index (set at who (n + 1)) filers)
     go (yes same) =
         let moved : slice_index (set at who (n + 1)) filers ≡ n + 1 = ap (λ (k : ℕ). slice_index (set at who (n + 1)) k) (sym same) ∙ get_or-set_same at who (n + 1) 0 below in
-        let here : slice_index at filers ≡ n = ap (slice_index at) (sym same) ∙ sym value in
-        let more = one-more m c in
-        omega (arith, position, moved, here, more)
+        let there : slice_index at filers ≡ n = ap (slice_index at) (sym same) ∙ sym value in
+        let next : Some c ≡ first_of (drop n plays) = ap first_of (sym is ∙ (λ i. drop (sym value i) ((ap lists same ∙ own) i))) in
+        let more : moves (take (n + 1) plays) ≡ moves (take n plays) + move_weight c = ap moves (take-more plays n c next) ∙ moves-more (take n plays) c in
+        omega (arith, position, here, more, ap (number_at plays) moved, ap (number_at plays) there)
     go (no other) =
         let stays : slice_index (set at who (n + 1)) filers ≡ slice_index at filers = get_or-set_other at who filers (n + 1) 0 (λ t. other (sym t)) in
-        let same = filers-stay m c (filers-next filers lists at who c rest journals (omega arith) is) in
-        omega (arith, position, stays, same)
+        let weight = filers-stay c (filers-next filers lists at who c rest journals (omega arith) is) in
+        omega (arith, position, here, weight, ap (number_at plays) stays)

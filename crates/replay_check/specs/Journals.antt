@@ -1,8 +1,8 @@
 -- The calls that journals tell.
-use Rattle.std.specs.Prelude.{◌≡◌, ℕ, zero, suc, ◌+◌, List, [], ◌∷◌, ◌++◌, length, map, Option, Some, None}
+use Rattle.std.specs.Prelude.{◌≡◌, ℕ, zero, suc, ◌+◌, List, [], ◌∷◌, ◌++◌, length, map, true, false, Option, Some, None}
 use Rattle.frame_codec.specs.declared.item.Item.TheVariants as item
 use Rattle.playout.specs.declared.call.Call.{Call}
-use Rattle.playout.specs.declared.call.Call.TheVariants.{FileCall, SourceCall, BaseCall, PeekCall, TickCall}
+use Rattle.playout.specs.declared.call.Call.TheVariants.{FileCall, SourceCall, BaseCall, PeekCall, TickCall, LookCall, HoldCall, RetireCall}
 use Rattle.recorder.specs.declared.events.FilerEvent.{FilerEvent}
 use Rattle.recorder.specs.declared.events.FilerEvent.TheVariants as filer
 use Rattle.recorder.specs.declared.events.PlayEvent.{PlayEvent}
@@ -39,6 +39,12 @@ play_of play.Idle = PeekCall None
 play_of (play.Base base) = PeekCall (Some base)
 play_of play.Erasure = TickCall item.Erasure
 play_of (play.Frame f) = TickCall (item.Frame f)
+play_of play.Held = HoldCall true
+play_of play.Found = HoldCall false
+play_of (play.LookFree ahead) = LookCall ahead false
+play_of (play.LookFilled ahead) = LookCall ahead true
+play_of play.RetiredErasure = RetireCall item.Erasure
+play_of (play.RetiredFrame f) = RetireCall (item.Frame f)
 
 abbrev pub plays_in : List PlayEvent → List Call
 plays_in events = map play_of events

@@ -2,6 +2,7 @@ pub mod Verdict
 pub mod Rule
 pub mod Journals
 pub mod Lists
+pub mod Denials
 pub mod Making
 pub mod Render
 pub mod Drawn

@@ -5,6 +5,7 @@ use Rattle.playout.specs.declared.call.Call.{Call}
 use Rattle.recorder.specs.declared.events.FilerEvent.{FilerEvent}
 use Rattle.recorder.specs.Journals.{FilerRecord, PlayerRecord}
 use Rattle.replay_check.specs.Journals.{call_of, calls_in, filer_calls, journal_lists, plays_in}
+use Rattle.replay_check.specs.Denials.{AreDenials}
 use Rattle.replay_check.specs.Verdict.{Lists}
 
 pub record Recording : Type 0 where
@@ -31,6 +32,11 @@ AllCallsAt [] [] = Unit {0}
 AllCallsAt [] (v ∷ vs) = ⊥
 AllCallsAt (f ∷ fs) [] = ⊥
 AllCallsAt (f ∷ fs) (v ∷ vs) = AreCallsAt f.events v.items × AllCallsAt fs vs
+
+-- where the filers' calls stand, and which numbers the player's calls say are absent
+pub record AreFound (filers : List FilerRecord) (player : PlayerRecord) (places : List (Vec ℕ Global)) (denials : List ℕ) : Type 0 where
+  pub calls : AllCallsAt filers places
+  pub denied : AreDenials denials (plays_in player.events)
 
 -- what is left where this many calls of each caller were taken
 abbrev pub left_of : Lists → List ℕ → Lists

@@ -12,7 +12,7 @@ use Rattle.recorder.specs.declared.events.ScriptEvent.{ScriptEvent}
 use Rattle.recorder.specs.declared.events.ScriptEvent.TheVariants.{Tick, File, Datagram, Beat}
 use Rattle.recorder.specs.declared.tally.PlayTally.{PlayTally}
 use Rattle.recorder.specs.declared.tally.Tally.{Tally}
-use Rattle.recorder.specs.Tallies.{call_items, call_replies, play_tally, reply_tally}
+use Rattle.recorder.specs.Tallies.{call_replies, play_tally, reply_tally}
 use Rattle.replay_check.specs.Generator.{made_events, made_script, seed_key}
 use Rattle.replay_check.specs.declared.made.Made.{Made}
 use Rattle.replay_check.specs.declared.made.Made.TheVariants.{Done, WriteFault}
@@ -34,7 +34,7 @@ pub record AreTallies (seed count filers : ℕ) (plays : PlayTally) (tally : Tal
   pub history : List Entry
   pub are_calls : AreCalls filers (made_events (seed_key seed) filers count) history
   pub legal : IsLegal (2 ^ 6) opening_machine history
-  pub played : plays ≡ play_tally (flat_map call_items (calls_of filers history))
+  pub played : plays ≡ play_tally (calls_of filers history)
   pub filed : tally ≡ reply_tally (flat_map call_replies (calls history))
 
 -- what each answer says of the octets that the sink was given

@@ -5,14 +5,16 @@ use Rattle.std.specs.Io.KnownBytes.{Appends, Consumes, Keeps}
 use Rattle.gate_io.specs.Flow.{AppendsPart, ConsumesFewer, Gives}
 use Rattle.frame_codec.specs.declared.item.Item.{Item}
 use Rattle.frame_codec.specs.declared.item.Item.TheVariants as items
+use Rattle.playout.specs.declared.call.Call.{Call}
 use Rattle.recorder.specs.declared.events.PlayEvent.{PlayEvent}
-use Rattle.recorder.specs.declared.events.PlayEvent.TheVariants.{Idle, Base, Erasure, Frame}
+use Rattle.recorder.specs.declared.events.PlayEvent.TheVariants.{Idle, Base, Erasure, Frame, Held, Found, LookFree, LookFilled, RetiredErasure, RetiredFrame}
 use Rattle.recorder.specs.Files.{end_mark}
 use Rattle.recorder.specs.Heads.{Heading, head_fault, play_magic}
 use Rattle.recorder.specs.Journals.{IsPlayerJournal, PlayerRecord, PlayerRecordFits, opening_behind, player_front}
 use Rattle.recorder.specs.Play.{longest_play, play_event_text, play_fault_at}
 use Rattle.recorder.specs.Tallies.{play_tally}
 use Rattle.substitution.specs.Heard.{IsHeard, Sounding, Voices, sample_octets}
+use Rattle.replay_check.specs.Journals.{plays_in}
 use Rattle.replay_check.specs.declared.rendering.RenderEnd.{RenderEnd}
 use Rattle.replay_check.specs.declared.rendering.RenderEnd.TheVariants.{Done, Refused, ReadFault, WriteFault}
 
@@ -22,6 +24,12 @@ event_items Idle = items.Idle ∷ []
 event_items (Base base) = []
 event_items Erasure = items.Erasure ∷ []
 event_items (Frame frame) = items.Frame frame ∷ []
+event_items Held = items.Erasure ∷ []
+event_items Found = []
+event_items (LookFree ahead) = []
+event_items (LookFilled ahead) = []
+event_items RetiredErasure = []
+event_items (RetiredFrame frame) = []
 
 -- what a journal plays
 abbrev pub items_of : List PlayEvent → List Item
@@ -38,7 +46,7 @@ GivesSpeechOf played old new before now result = (speech : List ℤ) × SpeaksOn
 -- what follows the events, by how it ended
 abbrev pub Follows : RenderEnd → PlayerRecord → List ℕ → Type 0
 Follows (Done tally) j rest = (more : List ℕ) × (rest ≡ end_mark ∷ more)
-Follows (Refused f) j rest = play_fault_at (opening_behind true j.events) (length j.events) (length (player_front j)) rest ≡ Some f
+Follows (Refused f) j rest = play_fault_at j.head.g (opening_behind true j.events) (length j.events) (length (player_front j)) rest ≡ Some f
 Follows ReadFault j rest = Unit {0}
 Follows WriteFault j rest = Unit {0}
 
@@ -49,12 +57,12 @@ HasSpeech (Refused f) before now speech = Appends before now speech
 HasSpeech ReadFault before now speech = Appends before now speech
 HasSpeech WriteFault before now speech = AppendsPart before now speech
 
--- what was played is counted
-abbrev pub IsTallied : RenderEnd → List Item → Type 0
-IsTallied (Done tally) played = tally ≡ play_tally played
-IsTallied (Refused f) played = Unit {0}
-IsTallied ReadFault played = Unit {0}
-IsTallied WriteFault played = Unit {0}
+-- the player's calls are counted
+abbrev pub IsTallied : RenderEnd → List Call → Type 0
+IsTallied (Done tally) calls = tally ≡ play_tally calls
+IsTallied (Refused f) calls = Unit {0}
+IsTallied ReadFault calls = Unit {0}
+IsTallied WriteFault calls = Unit {0}
 
 -- after this prefix the events were read, and their speech was given
 pub record Played (seed front : List ℕ) (end : RenderEnd) (input before now : Option (List ℕ)) (j : PlayerRecord) (samples : List ℤ) : Type 0 where
@@ -62,7 +70,7 @@ pub record Played (seed front : List ℕ) (end : RenderEnd) (input before now : 
   pub text : IfSome input (λ octets. (rest : List ℕ) × (octets ≡ front ++ rest) × Follows end j rest)
   pub heard : IsHeard seed (items_of j.events) samples
   pub given : HasSpeech end before now (sample_octets samples)
-  pub tallied : IsTallied end (items_of j.events)
+  pub tallied : IsTallied end (plays_in j.events)
 
 -- the same of some events, after a head that was read
 abbrev pub PlayedBehind : List ℕ → RenderEnd → Heading → Option (List ℕ) → Option (List ℕ) → Option (List ℕ) → Type 0

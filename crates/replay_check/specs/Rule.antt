@@ -1,43 +1,62 @@
 -- The rule that takes the calls of the lists one by one.
-use Rattle.std.specs.Prelude.{◌≡◌, ◌≢◌, ◌⊎◌, ℕ, ◌+◌, ◌^◌, ◌<◌, ◌≤◌, ◌==◌, List, [], ◌∷◌, length, Some, None, if◌then◌else◌}
+use Rattle.std.specs.Prelude.{◌≡◌, ◌≢◌, ◌⊎◌, ℕ, ◌+◌, ◌^◌, ◌<◌, ◌≤◌, ◌==◌, List, [], ◌∷◌, length, Some, None, true, false, if◌then◌else◌}
 use Rattle.playout.specs.declared.call.Call.{Call}
-use Rattle.playout.specs.declared.call.Call.TheVariants.{FileCall, SourceCall, BaseCall, PeekCall, TickCall}
+use Rattle.playout.specs.declared.call.Call.TheVariants.{FileCall, SourceCall, BaseCall, PeekCall, TickCall, LookCall, HoldCall, RetireCall}
+use Rattle.playout.specs.declared.reply.FileReply.TheVariants.{Accepted}
 use Rattle.playout.specs.Machine.{Machine, opening_machine, Replies, after}
+use Rattle.playout.specs.History.{move_weight}
 use Rattle.replay_check.specs.declared.verdict.Verdict.{Verdict}
 use Rattle.replay_check.specs.declared.verdict.Verdict.TheVariants.{Legal, Illegal}
 use Rattle.replay_check.specs.Verdict.{Lists, Lawful, HasOrder}
 
--- a caller's list begins with this call, and the machine would reply to it so
-pub record IsNext (r : ℕ) (m : Machine) (lists : Lists) (who : ℕ) (c : Call) (rest : List Call) : Type 0 where
+-- this call of the player, made at position p, answers that n is absent
+abbrev pub SaysAbsent : ℕ → ℕ → Call → Type 0
+SaysAbsent n p (LookCall ahead false) = p + ahead ≡ n
+SaysAbsent n p (HoldCall true) = p ≡ n
+SaysAbsent n p _ = ⊥
+
+-- one of the player's calls from position p on does
+abbrev pub Absent : ℕ → ℕ → List Call → Type 0
+Absent n p [] = ⊥
+Absent n p (c ∷ cs) = SaysAbsent n p c ⊎ Absent n (p + move_weight c) cs
+
+-- a frame that was accepted has to wait for the calls of the player that answer that its number is absent
+abbrev pub Waits : ℕ → Machine → Lists → Call → Type 0
+Waits filers m lists (FileCall n f Accepted) = Absent n m.position (lists filers)
+Waits filers m lists _ = ⊥
+
+-- a caller's list begins with this call, the machine would reply to it so, and it need not wait
+pub record IsNext (r filers : ℕ) (m : Machine) (lists : Lists) (who : ℕ) (c : Call) (rest : List Call) : Type 0 where
   pub next : lists who ≡ c ∷ rest
   pub replies : Replies r m c
+  pub ready : Waits filers m lists c → ⊥
 
 -- a caller's next call is possible
-abbrev pub Can : ℕ → Machine → Lists → ℕ → Type 0
-Can r m lists who = (c : Call) × (rest : List Call) × IsNext r m lists who c rest
+abbrev pub Can : ℕ → ℕ → Machine → Lists → ℕ → Type 0
+Can r filers m lists who = (c : Call) × (rest : List Call) × IsNext r filers m lists who c rest
 
-abbrev pub IsPeek : Call → Type 0
-IsPeek (FileCall n f reply) = ⊥
-IsPeek (SourceCall x held) = ⊥
-IsPeek (BaseCall x held) = ⊥
-IsPeek (PeekCall held) = Unit {0}
-IsPeek (TickCall item) = ⊥
+-- a call of the player that takes nothing
+abbrev pub IsQuiet : Call → Type 0
+IsQuiet (PeekCall held) = Unit {0}
+IsQuiet (LookCall ahead filled) = Unit {0}
+IsQuiet (HoldCall held) = Unit {0}
+IsQuiet _ = ⊥
 
--- the player's next call is a peek and is possible
-abbrev pub CanPeek : ℕ → ℕ → Machine → Lists → Type 0
-CanPeek r filers m lists = (c : Call) × (rest : List Call) × IsNext r m lists filers c rest × IsPeek c
+-- the player's next call takes nothing and is possible
+abbrev pub CanQuietly : ℕ → ℕ → Machine → Lists → Type 0
+CanQuietly r filers m lists = (c : Call) × (rest : List Call) × IsNext r filers m lists filers c rest × IsQuiet c
 
 -- of the callers below this number none has a possible call
-abbrev pub NoneCan : ℕ → ℕ → Machine → Lists → Type 0
-NoneCan r below m lists = (k : ℕ) → k < below → Can r m lists k → ⊥
+abbrev pub NoneCan : ℕ → ℕ → ℕ → Machine → Lists → Type 0
+NoneCan r filers below m lists = (k : ℕ) → k < below → Can r filers m lists k → ⊥
 
--- The caller whose call the rule takes: the player where it can peek, else the lowest filer that has a possible
--- call, else the player where its call is possible.
+-- The caller whose call the rule takes: the player where its next call takes nothing and is possible, else the lowest filer that has a
+-- possible call, else the player where its tick or retire is possible.
 abbrev pub IsTaken : ℕ → ℕ → Machine → Lists → ℕ → Type 0
 IsTaken r filers m lists who =
-    ((who ≡ filers) × CanPeek r filers m lists)
-    ⊎ (((who < filers) × (CanPeek r filers m lists → ⊥) × Can r m lists who × NoneCan r who m lists)
-    ⊎ ((who ≡ filers) × (CanPeek r filers m lists → ⊥) × Can r m lists filers × NoneCan r filers m lists))
+    ((who ≡ filers) × CanQuietly r filers m lists)
+    ⊎ (((who < filers) × (CanQuietly r filers m lists → ⊥) × Can r filers m lists who × NoneCan r filers who m lists)
+    ⊎ ((who ≡ filers) × (CanQuietly r filers m lists → ⊥) × Can r filers m lists filers × NoneCan r filers filers m lists))
 
 -- the lists with another one for this caller
 abbrev pub without : Lists → ℕ → List Call → Lists
@@ -47,7 +66,7 @@ without lists who rest k = if k == who then rest else lists k
 abbrev pub Follows : ℕ → ℕ → Machine → Lists → List ℕ → (Machine → Lists → Type 0) → Type 0
 Follows r filers m lists [] P = P m lists
 Follows r filers m lists (who ∷ order) P =
-    IsTaken r filers m lists who × ((c : Call) × (rest : List Call) × IsNext r m lists who c rest × Follows r filers (after m c) (without lists who rest) order P)
+    IsTaken r filers m lists who × ((c : Call) × (rest : List Call) × IsNext r filers m lists who c rest × Follows r filers (after m c) (without lists who rest) order P)
 
 -- all calls were taken
 abbrev pub NothingLeft : ℕ → Machine → Lists → Type 0
@@ -56,7 +75,7 @@ NothingLeft filers m lists = (k : ℕ) → k ≤ filers → lists k ≡ []
 -- No call is possible, and some are left: the first caller that has any is this one, and this many of its calls were
 -- taken.
 pub record IsStuck (r filers : ℕ) (all : Lists) (caller place : ℕ) (m : Machine) (lists : Lists) : Type 0 where
-  pub none : (k : ℕ) → k ≤ filers → Can r m lists k → ⊥
+  pub none : (k : ℕ) → k ≤ filers → Can r filers m lists k → ⊥
   pub known : caller ≤ filers
   pub some : lists caller ≢ []
   pub first : (k : ℕ) → k < caller → lists k ≡ []
@@ -76,8 +95,7 @@ abbrev pub IsFilers : Call → Type 0
 IsFilers (FileCall n f reply) = n < 2 ^ 47
 IsFilers (SourceCall x held) = Unit {0}
 IsFilers (BaseCall x held) = Unit {0}
-IsFilers (PeekCall held) = ⊥
-IsFilers (TickCall item) = ⊥
+IsFilers _ = ⊥
 
 abbrev pub AllFilers : List Call → Type 0
 AllFilers [] = Unit {0}
@@ -85,12 +103,12 @@ AllFilers (c ∷ cs) = IsFilers c × AllFilers cs
 
 -- what the player may have called after its peeks that saw no base
 abbrev pub IsLater : Call → Type 0
-IsLater (FileCall n f reply) = ⊥
-IsLater (SourceCall x held) = ⊥
-IsLater (BaseCall x held) = ⊥
-IsLater (PeekCall None) = ⊥
 IsLater (PeekCall (Some x)) = Unit {0}
 IsLater (TickCall item) = Unit {0}
+IsLater (LookCall ahead filled) = Unit {0}
+IsLater (HoldCall held) = Unit {0}
+IsLater (RetireCall item) = Unit {0}
+IsLater _ = ⊥
 
 abbrev pub AllLater : List Call → Type 0
 AllLater [] = Unit {0}

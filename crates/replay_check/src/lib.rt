@@ -1,6 +1,7 @@
 //! What journals tell: whether their calls have a legal history, and the speech that was played.
 #![tactic(auto)]
 
+mod denials;
 mod heads;
 mod laws;
 mod made;
@@ -9,6 +10,7 @@ mod making;
 mod order;
 mod pick;
 mod played;
+mod plays;
 mod recorded;
 mod rendering;
 mod replay;

@@ -1,7 +1,6 @@
 // A recorded call, made once more.
 ghost use Rattle.std.specs.Prelude.{◌≡◌, ◌<◌, ◌≤◌, ◌^◌};
 ghost use Rattle.playout.specs.Machine.{Replies, after};
-ghost use Rattle.playout.specs.History.{tick_weight};
 ghost use Rattle.replay_check.specs.Making.{IsMakeable};
 
 use playout::{Call, MapLine};
@@ -26,9 +25,14 @@ pub fn make(line: &mut MapLine, call: &Call)
         Call::BaseCall { ts, .. } => {
             line.base(ANY_FILER, *ts);
         }
-        Call::PeekCall { .. } => {}
         Call::TickCall { .. } => {
             line.tick();
         }
+        Call::RetireCall { .. } => {
+            line.retire();
+        }
+        Call::PeekCall { .. } => {}
+        Call::LookCall { .. } => {}
+        Call::HoldCall { .. } => {}
     }
 }

@@ -3,10 +3,10 @@ ghost use Rattle.std.specs.Prelude.{◌≡◌, ◌<◌, ◌^◌};
 ghost use Rattle.recorder.specs.Tallies.{no_plays, no_tally};
 
 use crate::round::Round;
-use playout::MapLine;
+use playout::{Call, MapLine};
 use recorder::{PlayTally, Tally};
 
-/// The line that the rounds call, and what was counted of the items and the replies.
+/// The line that the rounds call, and what was counted of the ticks and the replies.
 #[derive(Drop)]
 pub struct Played {
     pub line: MapLine,
@@ -40,6 +40,6 @@ impl Played {
             .file(round.caller as u32, round.number, &round.frame);
         self.replies.reply(&reply);
         let item = self.line.tick();
-        self.items.item(&item);
+        self.items.call(&Call::TickCall { item });
     }
 }

@@ -1,15 +1,20 @@
 // The calls of journals, caller by caller.
-ghost use Rattle.std.specs.Prelude.{◌≡◌, ◌≤◌, ◌<◌, ◌+◌, drop, length, IfOk};
+ghost use Rattle.std.specs.Prelude.{◌≡◌, ◌↔◌, ◌≤◌, ◌<◌, ◌+◌, drop, length, IfOk, IsTrue};
 ghost use Rattle.recorder.specs.Journals.{FilerRecordFits, PlayerRecordFits};
-ghost use Rattle.replay_check.specs.Journals.{AllRecordsFit, call_of, calls_in, play_of, plays_in};
-ghost use Rattle.replay_check.specs.Lists.{AllCallsAt, AreCallsAt, first_of, list_of};
+ghost use Rattle.replay_check.specs.Denials.{IsDenied};
+ghost use Rattle.replay_check.specs.Journals.{AllRecordsFit, call_of, plays_in};
+ghost use Rattle.replay_check.specs.Lists.{AreCallsAt, first_of, list_of};
 
-use frame_codec::Item;
+use crate::denials::denials_of;
+use crate::plays::play_of;
 use gate_base::OutOfMemory;
 use playout::Call;
-use recorder::{FilerEvent, FilerJournal, PlayEvent, PlayerJournal};
+use recorder::{FilerEvent, FilerJournal, PlayerJournal};
 use std::alloc::Global;
 use std::marker::Model;
+
+// The number that the first tick or retire takes.
+const START: u64 = 1 << 32;
 
 fn call_of(event: &FilerEvent) -> Option<Call>
     ensures { result ≡ call_of event.now }
@@ -36,21 +41,6 @@ fn call_of(event: &FilerEvent) -> Option<Call>
     }
 }
 
-fn play_of(event: &PlayEvent) -> Call
-    ensures { result ≡ play_of event.now }
-{
-    match event {
-        PlayEvent::Idle => Call::PeekCall { held: None },
-        PlayEvent::Base { base } => Call::PeekCall { held: Some(*base) },
-        PlayEvent::Erasure => Call::TickCall {
-            item: Item::Erasure,
-        },
-        PlayEvent::Frame(frame) => Call::TickCall {
-            item: Item::Frame(*frame),
-        },
-    }
-}
-
 // Where the calls of a filer stand in its journal.
 fn places_of(alloc: Global, journal: &FilerJournal) -> Result<Vec<u32>, OutOfMemory>
     ensures places { IfOk result (λ v. AreCallsAt journal.now.events v.items) }
@@ -73,16 +63,18 @@ pub struct Recorded<'a> {
     player: &'a PlayerJournal,
     // For each filer, which of its events are calls.
     places: Vec<Vec<u32>>,
+    // For each number from the first on, behind which of the player's calls none says that it is absent.
+    denials: Vec<u32>,
 }
 
 impl<'a> Model for Recorded<'a> {
-    ghost use Rattle.replay_check.specs.Lists.{AllCallsAt, Recording};
+    ghost use Rattle.replay_check.specs.Lists.{AreFound, Recording};
 
     ghost Value = { Recording };
 
     ghost view = { λ r. record { filers = r.filers.now; player = r.player.now } };
 
-    ghost invariant = { λ r. AllCallsAt r.filers.now r.places.items };
+    ghost invariant = { λ r. AreFound r.filers.now r.player.now r.places.items r.denials.items };
 }
 
 impl<'a> Recorded<'a> {
@@ -96,8 +88,7 @@ impl<'a> Recorded<'a> {
         ensures filers { IfOk result (λ r. AllRecordsFit filers.entry.now) }
         ensures player { PlayerRecordFits player.entry.now }
     {
-        // (the player's journal tells its ranges where it is read)
-        let _ranges = player.len();
+        let denials = denials_of(alloc, player)?;
         let mut places: Vec<Vec<u32>> = Vec::new(alloc);
         'journals: for filer in filers {
             places.push(places_of(alloc, filer)?)?;
@@ -106,6 +97,7 @@ impl<'a> Recorded<'a> {
             filers,
             player,
             places,
+            denials,
         })
     }
 
@@ -137,6 +129,21 @@ impl<'a> Recorded<'a> {
             self.filed(who, place)
         } else {
             self.played(place)
+        }
+    }
+
+    /// Whether one of the player's calls from this place on says that a number is absent.
+    pub fn denies(&self, number: u64, place: usize) -> bool
+        ensures { IsTrue result ↔ IsDenied (plays_in self.now.player.events) number place }
+    {
+        if number < START {
+            return false;
+        }
+        let at = (number - START) as usize;
+        if at < self.denials.len() {
+            place < self.denials[at] as usize
+        } else {
+            false
         }
     }
 

@@ -1,12 +1,14 @@
 // A player's journal becomes the speech that it played.
 ghost use Rattle.std.specs.Prelude.{◌≡◌, ◌≤◌, ◌∷◌, ◌++◌, [], List, Ok, option_to_list};
 ghost use Rattle.gate_base.specs.Faults.{HasCause, Rose};
-ghost use Rattle.frame_codec.specs.declared.item.Item.{Item};
+ghost use Rattle.playout.specs.declared.call.Call.{Call};
 ghost use Rattle.recorder.specs.Heads.{IsHeading};
 ghost use Rattle.recorder.specs.Reader.{headed_play};
 ghost use Rattle.recorder.specs.Tallies.{play_tally};
+ghost use Rattle.replay_check.specs.Journals.{play_of};
 ghost use Rattle.replay_check.specs.Render.{Completes, GivesSpeechOf, PlayedBehind, Renders, Stops, StopsBehind, event_items};
 
+use crate::plays::play_of;
 use byteorder::{ByteOrder, LittleEndian};
 use frame_codec::Item;
 use gate_io::{Failed, Sink, Source};
@@ -18,7 +20,7 @@ use substitution::Voice;
 /// How a journal was played.
 #[derive(Clone, Copy, Debug, PartialEq, Eq)]
 pub enum RenderEnd {
-    /// It was played to its end mark, and this was played.
+    /// It was played to its end mark, and this was counted.
     Done(PlayTally),
     /// The journal has this first fault.
     Refused(RecordFault),
@@ -50,10 +52,16 @@ fn item_of(event: &PlayEvent) -> Option<Item>
         PlayEvent::Base { .. } => None,
         PlayEvent::Erasure => Some(Item::Erasure),
         PlayEvent::Frame(frame) => Some(Item::Frame(*frame)),
+        PlayEvent::Held => Some(Item::Erasure),
+        PlayEvent::Found => None,
+        PlayEvent::LookFree { .. } => None,
+        PlayEvent::LookFilled { .. } => None,
+        PlayEvent::RetiredErasure => None,
+        PlayEvent::RetiredFrame(_) => None,
     }
 }
 
-// Plays and counts what an event plays.
+// Counts an event's call, and plays what the event plays.
 fn play_event<O: Sink>(
     event: &PlayEvent,
     voice: &mut Voice,
@@ -61,15 +69,13 @@ fn play_event<O: Sink>(
     pcm: &mut O,
 ) -> Result<(), Failed>
     ensures played { GivesSpeechOf (event_items event.now) voice.old voice.new (O.given pcm.old) (O.given pcm.new) result }
-    ensures counted { (items : List Item) → tally.old ≡ play_tally items → tally.new ≡ play_tally (items ++ event_items event.now) }
+    ensures counted { (calls : List Call) → tally.old ≡ play_tally calls → tally.new ≡ play_tally (calls ++ play_of event.now ∷ []) }
     ensures cause { HasCause (O.faults pcm.old) (O.faults pcm.new) result }
     ensures kin { O.kin pcm.old pcm.new }
 {
+    tally.call(&play_of(event));
     match item_of(event) {
-        Some(item) => {
-            tally.item(&item);
-            give_speech(voice, item, pcm)
-        }
+        Some(item) => give_speech(voice, item, pcm),
         None => Ok(()),
     }
 }
@@ -108,7 +114,8 @@ fn play_events<I: Source, O: Sink>(
 }
 
 /// Plays a player's journal by a voice of this seed: the speech is 320 octets for each beat of 20 ms, which are 160
-/// samples of 16 bits at 8 kHz, the low octet first. An Idle is silent, and a Base plays nothing.
+/// samples of 16 bits at 8 kHz, the low octet first. An Idle is silent, and a Held plays as an erasure does. A Base, what was looked
+/// for and what was retired play nothing.
 ///
 /// It takes no memory. A fault ends it there, and what was given stays: the speech of all events that were read, and
 /// where a give failed that of all but the last, and a prefix of that.

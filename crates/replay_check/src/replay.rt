@@ -47,9 +47,11 @@ fn judge(alloc: Global, mut line: MapLine, lists: &Recorded<'_>) -> Result<Verdi
 /// calls are those of its journal, in their order. All heads are equal, and there is a journal for each filer, in the
 /// order of their numbers.
 ///
-/// The order is that of a rule, which takes at each point a possible peek of the player, else the next call of the
-/// lowest filer whose next call is possible, else the player's tick where that is possible. Where it finds none and
-/// calls are left, no legal history exists.
+/// The order is that of a rule. A call is possible where the machine would reply so; a frame that was accepted moreover only where
+/// no later look or hold of the player tells that its number is absent. At each point the rule takes the player's next
+/// call where it is a peek, a look or a hold and is possible, else the next call of the lowest filer whose next call is
+/// possible, else the player's tick or retire where that is possible. Where it finds none and calls are left, no legal
+/// history exists.
 pub fn verify(
     alloc: Global,
     filers: &Vec<FilerJournal>,

@@ -60,17 +60,25 @@ fn filer_makes(small: &mut Small, filer: u8, code: u8) -> bool {
     }
 }
 
+// Takes what waits under the position.
+fn taken(small: &mut Small) -> u8 {
+    let there = frame_at(small, small.position);
+    put_frame(small, small.position, 0);
+    small.position = small.position.saturating_add(1);
+    there
+}
+
 // Whether the player is answered so.
 fn player_makes(small: &mut Small, code: u8) -> bool {
     match code {
         0 => small.base == 0,
         1 => small.base == 1,
-        _ => {
-            let there = frame_at(small, small.position);
-            put_frame(small, small.position, 0);
-            small.position = small.position.saturating_add(1);
-            there == code - 2
-        }
+        2 | 3 | 4 => taken(small) == code - 2,
+        5 | 7 => frame_at(small, small.position) == 0,
+        6 | 9 => frame_at(small, small.position) != 0,
+        8 => frame_at(small, small.position.saturating_add(1)) == 0,
+        10 => frame_at(small, small.position.saturating_add(1)) != 0,
+        _ => taken(small) == code.wrapping_sub(11),
     }
 }
 
@@ -153,7 +161,16 @@ fn beat_words(code: u8) -> &'static str {
         1 => "11 00000001",
         2 => "12",
         3 => "13 xD1",
-        _ => "13 xD2",
+        4 => "13 xD2",
+        5 => "14",
+        6 => "15",
+        7 => "16 0000",
+        8 => "16 0001",
+        9 => "17 0000",
+        10 => "17 0001",
+        11 => "18",
+        12 => "19 xD1",
+        _ => "19 xD2",
     }
 }
 
@@ -191,9 +208,22 @@ fn agrees(alloc: Global, one: &[u8], two: &[u8], beats: &[u8]) -> Result<bool, O
     }
 }
 
+// The first lists of the filers, of one and of two calls each, that do not agree with this list of the player.
+fn first_other(alloc: Global, k: usize, beat: &[u8]) -> Result<Option<[u8; 4]>, OutOfMemory> {
+    for a in 0..9u8 {
+        for b in 0..9u8 {
+            let c = (a + 2 * b + (k % 9) as u8) % 9;
+            let d = (2 * a + b + (k % 9) as u8) % 9;
+            if !agrees(alloc, &[a, c], &[d, b], beat)? || !agrees(alloc, &[a], &[b], beat)? {
+                return Ok(Some([a, c, d, b]));
+            }
+        }
+    }
+    Ok(None)
+}
+
 #[test]
-fn the_verdict_is_that_of_a_search(rt: HostRuntime) -> Result<(), Fail> {
-    let alloc = rt.alloc();
+fn the_verdict_on_ticks_is_that_of_a_search(rt: HostRuntime) -> Result<(), Fail> {
     // The player's lists in order: Idle, Base 1, erasure, frames of the first and the second filer.
     let beats = [
         [2, 2],
@@ -212,16 +242,40 @@ fn the_verdict_is_that_of_a_search(rt: HostRuntime) -> Result<(), Fail> {
         [0, 0],
     ];
     for (k, beat) in beats.iter().enumerate() {
-        for a in 0..9u8 {
-            for b in 0..9u8 {
-                let c = (a + 2 * b + k as u8) % 9;
-                let d = (2 * a + b + k as u8) % 9;
-                let same = agrees(alloc, &[a, c], &[d, b], beat)?;
-                assert!(rt; same, "{k} {a} {c} {d} {b}");
-                let short = agrees(alloc, &[a], &[b], beat)?;
-                assert!(rt; short, "{k} {a} {b}");
-            }
-        }
+        assert!(rt; first_other(rt.alloc(), k, beat)?.is_none(), "{k}");
+    }
+    Ok(())
+}
+
+#[test]
+fn the_verdict_on_looks_holds_and_retires_is_that_of_a_search(rt: HostRuntime) -> Result<(), Fail> {
+    // Held and found (5, 6), looks that are free (7, 8) and filled (9, 10) at 0 and 1, and retires (11 to 13).
+    let beats = [
+        [5, 2],
+        [5, 3],
+        [5, 4],
+        [5, 6],
+        [5, 9],
+        [6, 3],
+        [7, 3],
+        [7, 10],
+        [8, 2],
+        [8, 4],
+        [8, 10],
+        [9, 5],
+        [9, 13],
+        [10, 8],
+        [10, 11],
+        [2, 5],
+        [3, 7],
+        [11, 3],
+        [11, 5],
+        [12, 4],
+        [1, 5],
+        [0, 6],
+    ];
+    for (k, beat) in beats.iter().enumerate() {
+        assert!(rt; first_other(rt.alloc(), k, beat)?.is_none(), "{k}");
     }
     Ok(())
 }

@@ -1,7 +1,7 @@
 // Journals are written as words and read back. Expected verdicts are of the rules, or of a search.
 use super::*;
 use gate_io::{MemorySink, MemorySource};
-use recorder::{FilerJournal, PlayerJournal};
+use recorder::{FilerJournal, PlayTally, PlayerJournal};
 use std::alloc::{AllocError, Global};
 use std::test::Fail;
 
@@ -149,6 +149,110 @@ fn two_accepted_frames_of_one_number_have_no_history(rt: HostRuntime) -> Result<
             })
         )
     );
+    Ok(())
+}
+
+// The verdict on a filer and the player.
+fn verdict_of_one(
+    alloc: Global,
+    filer: &str,
+    player: &str,
+) -> Result<Option<Verdict>, OutOfMemory> {
+    let mut filers: Vec<FilerJournal> = Vec::new(alloc);
+    filers.push(filer_of(alloc, filer)?)?;
+    verdict_of(alloc, &filers, &player_of(alloc, player)?)
+}
+
+#[test]
+fn a_frame_that_came_behind_a_held_beat_stands_behind_it(rt: HostRuntime) -> Result<(), Fail> {
+    let verdict = verdict_of_one(
+        rt.alloc(),
+        "filer 01020000 00 20 00000007 00000007 21 000003E8 000003E8
+        22 0000000100000000 xD1 22 0000000100000001 xD2",
+        "player 01020000 11 000003E8 15 13 xD1 14 17 0000 13 xD2",
+    )?;
+    assert!(rt; is_legal(&verdict, &[0, 0, 1, 0, 1, 1, 1, 0, 1, 1]));
+    Ok(())
+}
+
+#[test]
+fn a_number_that_was_lost_is_retired(rt: HostRuntime) -> Result<(), Fail> {
+    let verdict = verdict_of_one(
+        rt.alloc(),
+        "filer 01020000 00 20 00000007 00000007 21 000003E8 000003E8
+        22 0000000100000000 xD1 22 0000000100000002 xD2",
+        "player 01020000 11 000003E8 15 13 xD1 14 16 0000 17 0001 18 13 xD2",
+    )?;
+    assert!(rt; is_legal(&verdict, &[0, 0, 1, 0, 1, 0, 1, 1, 1, 1, 1, 1]));
+    Ok(())
+}
+
+// Whether a frame that one filer had accepted under the first number has no history with this list of the player, where the rule
+// stops at this caller's call at this place.
+fn stops_at(alloc: Global, player: &str, caller: u32, place: u64) -> Result<bool, OutOfMemory> {
+    let verdict = verdict_of_one(alloc, "filer 01020000 00 22 0000000100000000 xD1", player)?;
+    match verdict {
+        Some(
+            Verdict::Illegal {
+                caller: who,
+                place: at,
+            },
+        ) => Ok(who == caller && at == place),
+        _ => Ok(false),
+    }
+}
+
+#[test]
+fn a_frame_is_not_absent_once_it_came(rt: HostRuntime) -> Result<(), Fail> {
+    // It was seen, and then a beat was held for it, or it was not seen.
+    assert!(rt; stops_at(rt.alloc(), "player 01020000 17 0000 14", 0, 0)?);
+    assert!(rt; stops_at(rt.alloc(), "player 01020000 15 16 0000 13 xD1", 0, 0)?);
+    // It was not seen, and its number was retired without it.
+    assert!(rt; stops_at(rt.alloc(), "player 01020000 16 0000 18", 1, 1)?);
+    assert!(rt; stops_at(rt.alloc(), "player 01020000 14 12", 1, 1)?);
+    Ok(())
+}
+
+// Plays a journal, and counts it where it was played to its end.
+fn played(
+    alloc: Global,
+    text: &str,
+    pcm: &mut MemorySink,
+) -> Result<Option<PlayTally>, OutOfMemory> {
+    let mut octets = octets_of(alloc, text)?;
+    octets.extend_from_slice(&[0xFF])?;
+    let mut source = MemorySource::new(alloc, &octets, 4096, &[])?;
+    match render([7; 32], &mut source, pcm) {
+        RenderEnd::Done(tally) => Ok(Some(tally)),
+        _ => Ok(None),
+    }
+}
+
+#[test]
+fn a_held_beat_plays_as_an_erasure_and_a_retired_number_not_at_all(
+    rt: HostRuntime,
+) -> Result<(), Fail> {
+    let mut one = MemorySink::new(rt.alloc(), 4096, &[])?;
+    let mut two = MemorySink::new(rt.alloc(), 4096, &[])?;
+    let text =
+        "player 01020000 11 000003E8 15 13 xD1 14 16 0000 17 0001 18 14 17 0000 19 xD3 13 xD2";
+    let tally = played(rt.alloc(), text, &mut one)?;
+    let expected = PlayTally {
+        ticks: 2,
+        frames: 2,
+        erasures: 0,
+        idle: 0,
+        held: 2,
+        retired: 2,
+    };
+    assert!(rt; tally == Some(expected));
+    let _ = played(
+        rt.alloc(),
+        "player 01020000 11 000003E8 13 xD1 12 12 13 xD2",
+        &mut two,
+    )?;
+    assert!(rt; one.octets().len() == 4 * 320);
+    assert!(rt; *one.octets() == *two.octets());
     Ok(())
 }
 

@@ -1,6 +1,7 @@
 use Rattle.std.proofs.Common.{◌≡◌, ◌+◌, [], ◌∷◌, ◌++◌, refl, ap, arith}
 use Rattle.std.proofs.KnownBytes.{Appends-nil, Consumes-nil}
 use Rattle.recorder.specs.Reader.{PlayProgress}
+use Rattle.replay_check.specs.Journals.{plays_in}
 use Rattle.replay_check.specs.Render.{items_of}
 use Rattle.replay_check.proofs.Playing.{journal, playing-more, playing-broken, playing-done, playing-refused, playing-stopped, playing-breaks, playing-short}
 use Rattle.replay_check.proofs.rendering.play_events.Goals as goal
@@ -34,7 +35,7 @@ pub events-smaller : goal.events-smaller
 events-smaller g c =
     let s = c.events.invariant.playing.2 in
     let all = rw c.in-Ok-Some.field-0-is at c.in-Ok-Some.ensures in
-    let fits = all.fits s.over in
+    let fits = all.fits c.args.head.now s.head s.over in
     let count : c.next.new.self.reading.count ≡ c.events.reader.reading.count + 1 = ap (λ (r : PlayProgress). r.reading.count) (all.state s.over) in
     omega (arith, count, fits.1)
 
@@ -44,7 +45,7 @@ events-preserved g c =
     let s = p.2 in
     let e = c.in-Ok-Some.event in
     let all = rw c.in-Ok-Some.field-0-is at c.in-Ok-Some.ensures in
-    let fits = all.fits s.over in
+    let fits = all.fits c.args.head.now s.head s.over in
     let left = g.I.Source.left in
     let given = g.O.Sink.given in
     let done = c.in-Ok.ensures.played in
@@ -54,7 +55,7 @@ events-preserved g c =
         p.1 ++ done.0,
         playing-more c.args.seed c.args.head.now c.events.reader c.next.new.self c.events.voice c.play_event.new.voice c.events.tally c.play_event.new.tally (left c.args.journal.now) (left c.events.journal) (left c.next.new.source)
             (given c.args.pcm.now) (given c.events.pcm) (given c.play_event.new.pcm) p.0 p.1 done.0 e s fits.0 fits.1 (all.text s.over) (done.1 c.args.seed (items_of p.0) p.1 s.voices)
-            (all.state s.over) (c.in-Ok.ensures.counted (items_of p.0) s.counted) done.2,
+            (all.state s.over) (c.in-Ok.ensures.counted (plays_in p.0) s.counted) done.2,
       );
       read = omega (arith, c.events.invariant.read, c.next.ensures.later);
       written = omega (arith, c.events.invariant.written, c.play_event.ensures.cause.later);
@@ -67,7 +68,7 @@ returns-in-Err-clause-played g c =
     let s = p.2 in
     let e = c.in-Ok-Some.event in
     let all = rw c.in-Ok-Some.field-0-is at c.in-Ok-Some.ensures in
-    let fits = all.fits s.over in
+    let fits = all.fits c.args.head.now s.head s.over in
     let left = g.I.Source.left in
     let given = g.O.Sink.given in
     let done = c.in-Err.ensures.played in (
@@ -97,7 +98,7 @@ returns-in-Err-Fault-clause-played g c =
       p.1,
       refl,
       rw c.in-Err-Fault.fault-is (playing-refused c.args.seed c.args.head.now c.events.reader c.events.voice c.events.tally (g.I.Source.left c.args.journal.now) (g.I.Source.left c.events.journal) (g.O.Sink.given c.args.pcm.now) (g.O.Sink.given c.events.pcm)
-          p.0 p.1 s c.in-Err-Fault.fault (all.fault s.over)),
+          p.0 p.1 s c.in-Err-Fault.fault (all.fault c.args.head.now s.head s.over)),
     )
 
 pub returns-in-Err-ReadFailed-clause-played : goal.returns-in-Err-ReadFailed-clause-played
@@ -111,7 +112,7 @@ returns-in-Err-clause-stops g c =
     let s = p.2 in
     let e = c.in-Ok-Some.event in
     let all = rw c.in-Ok-Some.field-0-is at c.in-Ok-Some.ensures in
-    let fits = all.fits s.over in
+    let fits = all.fits c.args.head.now s.head s.over in
     let left = g.I.Source.left in
     let given = g.O.Sink.given in
     let done = c.in-Err.ensures.played in (

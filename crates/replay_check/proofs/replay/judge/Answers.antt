@@ -1,10 +1,13 @@
-use Rattle.std.proofs.Common.{◌≡◌, ℕ, ◌-◌, ◌<◌, ◌^◌, [], length, ap, ◌∙◌, sym, subst, arith, length-set, below_more}
+use Rattle.std.proofs.Common.{◌≡◌, ℕ, ◌+◌, ◌-◌, ◌<◌, ◌≤◌, ◌^◌, [], length, slice_index, ap, ◌∙◌, sym, subst, arith, length-set, below_more}
 use Rattle.playout.specs.Line.{Line}
 use Rattle.replay_check.specs.Rule.{AreJournals, IsVerdict}
 use Rattle.replay_check.specs.declared.verdict.Verdict.TheVariants.{Legal}
+use Rattle.replay_check.specs.Journals.{plays_in}
 use Rattle.replay_check.specs.Lists.{list_of, left_of}
 use Rattle.replay_check.proofs.Greedy.{taken-known}
-use Rattle.replay_check.proofs.Sofar.{pick-at, value_at, room_step, fewer_step, sofar-step, illegal-at, legal-at, drop-past, makeable, far-more}
+use Rattle.replay_check.proofs.Sofar.{pick-at, room_step, fewer_step, sofar-step, illegal-at, legal-at, drop-past, makeable, far_at, here-more}
+use Rattle.replay_check.proofs.Denied.{value_at}
+use Rattle.replay_check.proofs.Recordings.{list-player}
 use Rattle.replay_check.proofs.replay.judge.Goals as goal
 
 pub make-requires-clause-replies : goal.make-requires-clause-replies
@@ -18,7 +21,7 @@ make-requires-clause-makeable c =
     let journals = subst (λ (n : ℕ). AreJournals n (list_of c.args.lists.now)) (sym same) c.requires.journals in
     let p = pick-at _ _ _ _ _ _ _ _ c.deref.ensures.value c.in-Some.ensures in
     let known = taken-known _ _ _ _ _ p.0 in
-    makeable _ (list_of c.args.lists.now) c.steps.at.items c.in-Some.taken.who c.steps.line.machine.position c.in-Some.taken.call p.1.0 journals known p.1.1.next c.steps.invariant.far (c.steps.invariant.sofar.within _) (c.requires.short _)
+    makeable _ (list_of c.args.lists.now) c.steps.at.items c.in-Some.taken.who c.steps.line.machine.position c.in-Some.taken.call p.1.0 journals known p.1.1.next (subst (λ (n : ℕ). c.steps.line.machine.position ≤ 4294967296 + slice_index c.steps.at.items n) (sym same) (far_at (plays_in c.args.lists.now.player.events) _ _ c.steps.invariant.here)) (c.steps.invariant.sofar.within _) (c.requires.short _)
 
 pub overflow_add-index_mut : goal.overflow_add-index_mut
 overflow_add-index_mut c =
@@ -52,7 +55,8 @@ steps-preserved c =
       filers = ap (λ (l : Line). l.filers) c.make.ensures ∙ c.steps.invariant.filers;
       slots = ap (λ (l : Line). l.g) c.make.ensures ∙ c.steps.invariant.slots;
       long = length-set _ _ _ ∙ long;
-      far = far-more _ (list_of c.args.lists.now) c.steps.line.machine _ c.steps.at.items c.in-Some.taken.who c.index_mut.result.now c.in-Some.taken.call p.1.0 journals known below p.1.1.next value made c.steps.invariant.far;
+      here = here-more (length c.args.lists.now.filers) (list_of c.args.lists.now) (plays_in c.args.lists.now.player.events) c.steps.line.machine _ c.steps.at.items c.in-Some.taken.who c.index_mut.result.now c.in-Some.taken.call p.1.0
+          (list-player c.args.lists.now.filers c.args.lists.now.player) c.requires.journals (omega (arith, known, same)) below p.1.1.next value made c.steps.invariant.here;
       sofar = sofar-step _ _ _ _ _ _ _ _ _ _ _ _ _ (ap (λ (n : ℕ). 2 ^ n) c.steps.invariant.slots) below c.steps.invariant.sofar p.0 p.1.1 value made c.in_ok-push.ensures.items;
     }
 

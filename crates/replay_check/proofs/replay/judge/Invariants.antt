@@ -1,5 +1,6 @@
-use Rattle.std.proofs.Common.{ℕ, ◌≡◌, ◌<◌, ◌≤◌, ◌+◌, ◌^◌, [], length, slice_index}
+use Rattle.std.proofs.Common.{ℕ, ◌≡◌, ◌<◌, ◌+◌, ◌^◌, [], length}
 use Rattle.replay_check.specs.Lists.{list_of, left_of, count_left}
+use Rattle.replay_check.specs.Picks.{IsHere}
 use Rattle.replay_check.proofs.Sofar.{Sofar}
 use Rattle.replay_check.proofs.replay.judge.Given as goal
 
@@ -8,7 +9,7 @@ invariant-steps l = record {
   filers : l.line.filers ≡ l.fn.line.filers;
   slots : l.line.g ≡ l.fn.line.g;
   long : length l.at.items ≡ length l.lists.filers + 1;
-  far : l.line.machine.position ≤ 4294967296 + slice_index l.at.items l.player;
+  here : IsHere l.line l.lists l.at.items;
   sofar : Sofar (2 ^ l.fn.line.g) l.player (list_of l.lists) l.line.machine l.at.items l.order.items;
 }
 

@@ -5,12 +5,12 @@ use Rattle.replay_check.proofs.recorded.Recorded.count.Goals as goal
 
 pub index-requires : goal.index-requires
 index-requires c =
-    let long = as-long c.self.inside.filers.now c.self.inside.places.items c.self.invariant in
+    let long = as-long c.self.inside.filers.now c.self.inside.places.items c.self.invariant.calls in
     omega (arith, long, c.if-who-self.true, c.self.inside.places.ok.0)
 
 pub returns-then-who-self : goal.returns-then-who-self
 returns-then-who-self c =
-    let many = count-filer c.self.inside.filers.now c.self.inside.places.items c.self.inside.player.now c.args.who c.index.result.now c.self.invariant c.if-who-self.true c.index.ensures in
+    let many = count-filer c.self.inside.filers.now c.self.inside.places.items c.self.inside.player.now c.args.who c.index.result.now c.self.invariant.calls c.if-who-self.true c.index.ensures in
     rw (← c.self.view_is) (omega (arith, many, c.len.ensures, c.index.result.now.ok.0))
 
 pub returns-else-who-self : goal.returns-else-who-self

@@ -7,20 +7,20 @@ use Rattle.replay_check.proofs.recorded.Recorded.filed.Goals as goal
 
 pub index-places-requires : goal.index-places-requires
 index-places-requires c =
-    let long = as-long c.self.inside.filers.now c.self.inside.places.items c.self.invariant in
+    let long = as-long c.self.inside.filers.now c.self.inside.places.items c.self.invariant.calls in
     omega (arith, long, c.requires, c.self.inside.places.ok.0, ap (λ (r : Recording). length r.filers) c.self.view_is)
 
 pub get-requires : goal.get-requires
 get-requires c =
     let below : c.args.who < length c.self.inside.filers.now = omega (arith, c.requires, ap (λ (r : Recording). length r.filers) c.self.view_is) in
-    let are = calls_at c.self.inside.filers.now c.self.inside.places.items c.args.who c.index-self-who.result c.index-places.result.now c.self.invariant below c.index-self-who.is c.index-places.ensures in
+    let are = calls_at c.self.inside.filers.now c.self.inside.places.items c.args.who c.index-self-who.result c.index-places.result.now c.self.invariant.calls below c.index-self-who.is c.index-places.ensures in
     let there : c.args.place < length c.index-places.result.now.items = omega (arith, c.if-place-len.true, c.len.ensures, c.index-places.result.now.ok.0) in
     rw (← c.index-self-who.is) (place-within c.index-self-who.result.events c.index-places.result.now.items c.args.place c.index.result.now are there c.index.ensures)
 
 pub returns-then-place-len : goal.returns-then-place-len
 returns-then-place-len c =
     let below : c.args.who < length c.self.inside.filers.now = omega (arith, c.requires, ap (λ (r : Recording). length r.filers) c.self.view_is) in
-    let are = calls_at c.self.inside.filers.now c.self.inside.places.items c.args.who c.index-self-who.result c.index-places.result.now c.self.invariant below c.index-self-who.is c.index-places.ensures in
+    let are = calls_at c.self.inside.filers.now c.self.inside.places.items c.args.who c.index-self-who.result c.index-places.result.now c.self.invariant.calls below c.index-self-who.is c.index-places.ensures in
     let there : c.args.place < length c.index-places.result.now.items = omega (arith, c.if-place-len.true, c.len.ensures, c.index-places.result.now.ok.0) in
     let within = place-within c.index-self-who.result.events c.index-places.result.now.items c.args.place c.index.result.now are there c.index.ensures in
     rw (← c.self.view_is)
@@ -32,5 +32,5 @@ returns-then-place-len c =
 pub returns-else-place-len : goal.returns-else-place-len
 returns-else-place-len c =
     let below : c.args.who < length c.self.inside.filers.now = omega (arith, c.requires, ap (λ (r : Recording). length r.filers) c.self.view_is) in
-    let many = count-filer c.self.inside.filers.now c.self.inside.places.items c.self.inside.player.now c.args.who c.index-places.result.now c.self.invariant below c.index-places.ensures in
+    let many = count-filer c.self.inside.filers.now c.self.inside.places.items c.self.inside.player.now c.args.who c.index-places.result.now c.self.invariant.calls below c.index-places.ensures in
     rw (← c.self.view_is) (first-past _ c.args.place (omega (arith, many, c.if-place-len.false, c.len.ensures, c.index-places.result.now.ok.0)))
