@@ -1,5 +1,5 @@
 -- A player's journal gives back what its speaker got.
-use Rattle.std.specs.Prelude.{ℕ, ◌≡◌, ◌≤◌, ◌⊎◌, ℤ, List, [], ◌∷◌, ◌++◌, length, take, Option, Some}
+use Rattle.std.specs.Prelude.{ℕ, ◌+◌, ◌*◌, ◌≡◌, ◌≤◌, ◌⊎◌, ℤ, List, [], ◌∷◌, ◌++◌, length, take, Option, Some}
 use Rattle.std.specs.List.{AllByRecursion}
 use Rattle.std.specs.Io.KnownBytes.{Appends, Consumes, Keeps}
 use Rattle.playout.specs.declared.call.Call.{Call}
@@ -13,12 +13,12 @@ use Rattle.replay_check.specs.declared.rendering.RenderEnd.{RenderEnd}
 use Rattle.replay_check.specs.declared.rendering.RenderEnd.TheVariants.{Done, Refused, ReadFault, WriteFault}
 use Rattle.replay_check.specs.Render.{Renders, Stops, TookEvent, TookHead, items_of}
 use Rattle.player.specs.Beats.{CanBeTold}
-use Rattle.player.specs.Whole.{AreBeats, PlayerGave, Ports, items_in}
+use Rattle.player.specs.Whole.{AreAllBeats, PlayerGave, Ports, items_in}
 use Rattle.player.specs.declared.run.PlayerEnd.TheVariants.{Ended}
 
--- the output gained the octets of the samples, and the tally is that of the calls' items; a journal is never refused
+-- the output gained the octets of the samples, and the tally is that of the calls; a journal is never refused
 abbrev pub RendersTo : List Call → List ℤ → RenderEnd → Option (List ℕ) → Option (List ℕ) → Type 0
-RendersTo calls samples (Done tally) before now = Appends before now (sample_octets samples) × (tally ≡ play_tally (items_in calls))
+RendersTo calls samples (Done tally) before now = Appends before now (sample_octets samples) × (tally ≡ play_tally calls)
 RendersTo calls samples (Refused f) before now = ⊥
 RendersTo calls samples ReadFault before now = Unit {0}
 RendersTo calls samples WriteFault before now = Unit {0}
@@ -58,11 +58,17 @@ pub record GivesBack (seed : List ℕ) (h : Heading) (calls : List Call) (sample
 
 -- The journal of the calls of any beats gives back what is heard of them: a speaker gets the octets of these samples, and so does what the journal is rendered to.
 abbrev pub JournalRenders : Type 0
-JournalRenders = (seed : List ℕ) (h : Heading) (made : ℕ) (calls : List Call) (samples : List ℤ) → IsHeading h → AreBeats made calls → AllByRecursion CanBeTold calls → length calls ≤ event_limit
+JournalRenders = (seed : List ℕ) (h : Heading) (elastic made : ℕ) (calls : List Call) (samples : List ℤ) → IsHeading h → AreAllBeats elastic made calls → AllByRecursion (CanBeTold h.g) calls
+    → length calls ≤ event_limit
     → IsHeard seed (items_in calls) samples → GivesBack seed h calls samples
 
--- A player's run that reached its end gave its speaker the octets of these samples, and its journal, after any heading, gives them back.
+-- A beat makes four calls at most, and one where no number may be held; besides, a player looks once for the base that it sees.
+abbrev pub BeatsAreFew : Type 0
+BeatsAreFew = (elastic made : ℕ) (calls : List Call) → AreAllBeats elastic made calls → (length calls ≤ 4 * made + 1) × (elastic ≡ 0 → length calls ≤ made + 1)
+
+-- A player's run that reached its end gave its speaker the octets of these samples; and its journal, after any heading of its line, gives them back where it
+-- has no more events than a journal may have.
 abbrev pub RunRenders : Type 0
-RunRenders = (seed : List ℕ) (own sequence stamp before now made : ℕ) (calls : List Call) (a b : Ports) (h : Heading) → IsHeading h → made ≤ 16000000
-    → PlayerGave seed own sequence stamp before now made calls a b Ended
+RunRenders = (seed : List ℕ) (own sequence stamp elastic before now made : ℕ) (calls : List Call) (a b : Ports) (h : Heading) → IsHeading h → length calls ≤ event_limit
+    → PlayerGave seed own sequence stamp elastic h.g before now made calls a b Ended
     → (samples : List ℤ) × Appends a.heard b.heard (sample_octets samples) × GivesBack seed h calls samples

@@ -1,5 +1,5 @@
 // Laws of what is heard.
-ghost use Rattle.heard_laws.specs.Rendered.{JournalRenders, RunRenders};
+ghost use Rattle.heard_laws.specs.Rendered.{BeatsAreFew, JournalRenders, RunRenders};
 ghost use Rattle.heard_laws.specs.Sameness.{HeardIsOne, SpeechIsOne};
 
 use frame_codec::fields_are_one;
@@ -27,7 +27,13 @@ pub fn journal_renders()
     player_journals_have_no_fault();
 }
 
-/// The journal of a player's run that came to its end renders to the very octets that its speaker got.
+/// A beat makes four calls at most, and one where no number may be held.
+pub fn beats_are_few()
+    ensures { BeatsAreFew }
+{}
+
+/// The journal of a player's run that came to its end renders to the very octets that its speaker got, where it has no more
+/// events than a journal may have.
 pub fn run_renders()
     ensures { RunRenders }
 {

@@ -3,6 +3,8 @@
 
 mod hearing;
 mod laws;
+#[cfg(test)]
+mod line_tests;
 
 pub use hearing::is_heard;
-pub use laws::{heard_is_one, journal_renders, run_renders, speech_is_one};
+pub use laws::{beats_are_few, heard_is_one, journal_renders, run_renders, speech_is_one};
