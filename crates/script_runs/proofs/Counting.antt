@@ -1,13 +1,17 @@
--- One datagram or one reply more, in what is counted.
+-- One datagram, one reply or some calls more, in what is counted.
 use Rattle.std.proofs.Common.{◌≡◌, ℕ, ◌+◌, cond, Bool, List, [], ◌∷◌, ◌++◌, length, count_by, fold, refl, sym, ap, ◌∙◌, append_assoc, append-nil, length-append, arith}
 use Rattle.std.proofs.lemmas.List.Sums.{sum_by-append, sum_by-cons}
 use Rattle.playout.specs.declared.reply.FileReply.{FileReply}
 use Rattle.playout.specs.declared.reply.FileReply.TheVariants.{Accepted, Duplicate, Late, Beyond}
+use Rattle.playout.specs.declared.call.Call.{Call}
+use Rattle.recorder.specs.declared.tally.PlayTally.{PlayTally}
 use Rattle.recorder.specs.declared.tally.Tally.{Tally}
-use Rattle.recorder.specs.Tallies.{capped, is_accepted, is_duplicate, is_late, is_beyond, reply_counted}
+use Rattle.recorder.specs.Tallies.{capped, is_accepted, is_duplicate, is_late, is_beyond, play_tally, reply_counted}
+use Rattle.recorder.specs.TallyLaws.{play_tally-more}
 use Rattle.filer.specs.declared.outcome.OutcomeEnd.{OutcomeEnd}
 use Rattle.filer.specs.declared.outcome.OutcomeEnd.TheVariants as end
 use Rattle.filer.specs.Takes.{files_told, tallied}
+use Rattle.player.specs.Beats.{all_counted}
 use Rattle.script_runs.specs.Calls.{Ended}
 use Rattle.script_runs.specs.Counts.{is_empty, is_refused, is_rtcp, is_stranger, run_tally}
 
@@ -44,6 +48,12 @@ replies-more : (ends : List Ended) (before replies : List FileReply) → fold re
 replies-more ends before [] = ap (run_tally ends) (sym (append-nil before))
 replies-more ends before (r ∷ rs) =
     ap (λ (t : Tally). fold reply_counted t rs) (sym (reply-more ends before r)) ∙ replies-more ends (before ++ r ∷ []) rs ∙ ap (run_tally ends) (append_assoc before (r ∷ []) rs)
+
+-- the player's calls, some more
+pub calls-more : (before more : List Call) → all_counted (play_tally before) more ≡ play_tally (before ++ more)
+calls-more before [] = ap play_tally (sym (append-nil before))
+calls-more before (c ∷ cs) =
+    ap (λ (t : PlayTally). all_counted t cs) (sym (play_tally-more before c)) ∙ calls-more (before ++ c ∷ []) cs ∙ ap play_tally (append_assoc before (c ∷ []) cs)
 
 -- the counts of ends, one more
 module _ (ends : List Ended) (d : Ended) where

@@ -14,13 +14,10 @@ use Rattle.recorder.specs.Heads.{Heading, head_text, play_magic}
 use Rattle.recorder.specs.Play.{call_text}
 use Rattle.recorder.specs.Tallies.{call_items}
 use Rattle.std.specs.List.{flat_map}
-use Rattle.player.specs.declared.found.Found.{Found}
-use Rattle.player.specs.Beats.{item_of}
-use Rattle.player.specs.Beats as beats
 use Rattle.script_runs.specs.Calls.{made_by}
 use Rattle.script_runs.specs.declared.playback.Playback.{Playback}
 use Rattle.script_runs.specs.declared.playback.Playback.TheVariants.{Journal, Pcm}
-use Rattle.script_runs.proofs.Events.{calls_of-own, found-items}
+use Rattle.script_runs.proofs.Events.{calls_of-own}
 use Rattle.script_runs.specs.Playing.{GoesOn, IsPlayed, Stands, end_text, ending, front_text}
 
 -- the same of equal parts
@@ -77,13 +74,12 @@ is-ending (Some seed) journal items text (Pcm v) s = refl
 pub GoesOn-as : (j j' : List ℕ) (is is' : List Item) (a b : Playback) (t : List ℕ) → j' ≡ j → is' ≡ is → GoesOn j is a b t → GoesOn j' is' a b t
 GoesOn-as j j' is is' a b t p q on = subst (λ (l : List ℕ). GoesOn l is' a b t) (sym p) (subst (λ (l : List Item). GoesOn j l a b t) (sym q) on)
 
--- by what the player found
-pub found-goes-on : (player : ℕ) (found : Found) (a b : Playback) (t : List ℕ) → GoesOn (flat_map call_text (beats.calls_of found)) (item_of found ∷ []) a b t
-    → GoesOn (flat_map call_text (calls_of player (made_by player (beats.calls_of found)))) (flat_map call_items (calls_of player (made_by player (beats.calls_of found)))) a b t
-found-goes-on player found a b t on =
-    let cs = beats.calls_of found in
-    GoesOn-as (flat_map call_text cs) (flat_map call_text (calls_of player (made_by player cs))) (item_of found ∷ []) (flat_map call_items (calls_of player (made_by player cs))) a b t
-    (ap (flat_map call_text) (calls_of-own player cs)) (ap (flat_map call_items) (calls_of-own player cs) ∙ found-items found) on
+-- by the player's calls
+pub beat-goes-on : (player : ℕ) (cs : List Call) (a b : Playback) (t : List ℕ) → GoesOn (flat_map call_text cs) (flat_map call_items cs) a b t
+    → GoesOn (flat_map call_text (calls_of player (made_by player cs))) (flat_map call_items (calls_of player (made_by player cs))) a b t
+beat-goes-on player cs a b t on =
+    GoesOn-as (flat_map call_text cs) (flat_map call_text (calls_of player (made_by player cs))) (flat_map call_items cs) (flat_map call_items (calls_of player (made_by player cs))) a b t
+    (ap (flat_map call_text) (calls_of-own player cs)) (ap (flat_map call_items) (calls_of-own player cs)) on
 
 -- by calls of which none is the player's
 pub silent-goes-on : (player : ℕ) (made : List Entry) (p : Playback) → calls_of player made ≡ []

@@ -66,7 +66,7 @@ pub record Sofar (h : Heading) (playback playback_now : Playback) (reader : Prog
   pub goes_on : GoesOn (journal_of h turns) (items_of h turns) playback playback_now text
   pub given : Appends before now text
   pub noted : Appends notes notes_now (run_lines turns)
-  pub played : run.played ≡ play_tally (items_of h turns)
+  pub played : run.played ≡ play_tally (calls_of h.filers (history_of turns))
   pub filed : run.filed ≡ run_tally (ends_of turns) (flat_map call_replies (calls (history_of turns)))
 
 -- before the first event
@@ -121,9 +121,11 @@ turns-more filers before (x ∷ es) (u ∷ ts) mid e t after (next, first, rest)
 history-more : (turns : List Turn) (t : Turn) → history_of (turns ++ t ∷ []) ≡ history_of turns ++ t.calls
 history-more turns t = flat-more (λ (u : Turn). u.calls) turns t
 
+own-more : (who : ℕ) (turns : List Turn) (t : Turn) → calls_of who (history_of (turns ++ t ∷ [])) ≡ calls_of who (history_of turns) ++ calls_of who t.calls
+own-more who turns t = ap (calls_of who) (history-more turns t) ∙ calls_of-append who (history_of turns) t.calls
+
 of-more : {A : Type 0} (f : Call → List A) (who : ℕ) (turns : List Turn) (t : Turn) → flat_map f (calls_of who (history_of (turns ++ t ∷ []))) ≡ flat_map f (calls_of who (history_of turns)) ++ flat_map f (calls_of who t.calls)
-of-more f who turns t =
-    ap (λ (l : List Entry). flat_map f (calls_of who l)) (history-more turns t) ∙ ap (flat_map f) (calls_of-append who (history_of turns) t.calls) ∙ flat_map-append f (calls_of who (history_of turns)) (calls_of who t.calls)
+of-more f who turns t = ap (flat_map f) (own-more who turns t) ∙ flat_map-append f (calls_of who (history_of turns)) (calls_of who t.calls)
 
 all-more : {A : Type 0} (f : Call → List A) (turns : List Turn) (t : Turn) → flat_map f (calls (history_of (turns ++ t ∷ []))) ≡ flat_map f (calls (history_of turns)) ++ flat_map f (calls t.calls)
 all-more f turns t =
@@ -157,10 +159,10 @@ module _ (h : Heading) (playback playback_now later : Playback) (reader reader' 
       playback later (s.text ++ more) (of-more call_text h.filers turns turn) (of-more call_items h.filers turns turn)
       (GoesOn-after (journal_of h turns) (flat_map call_text (calls_of h.filers turn.calls)) (items_of h turns) (flat_map call_items (calls_of h.filers turn.calls)) playback playback_now later s.text more s.goes_on made)
 
-  played-more : run'.played ≡ play_tally (items_of h (turns ++ turn ∷ []))
-  played-more = applies.played (items_of h turns) s.played
-      ∙ ap (λ (n : ℕ). play_tally (items_of h turns ++ flat_map call_items (calls_of n turn.calls))) filers-are
-      ∙ ap play_tally (sym (of-more call_items h.filers turns turn))
+  played-more : run'.played ≡ play_tally (calls_of h.filers (history_of (turns ++ turn ∷ [])))
+  played-more = applies.played (calls_of h.filers (history_of turns)) s.played
+      ∙ ap (λ (n : ℕ). play_tally (calls_of h.filers (history_of turns) ++ calls_of n turn.calls)) filers-are
+      ∙ ap play_tally (sym (own-more h.filers turns turn))
 
   filed-more : run'.filed ≡ run_tally (ends_of (turns ++ turn ∷ [])) (flat_map call_replies (calls (history_of (turns ++ turn ∷ []))))
   filed-more = applies.filed (ends_of turns) (flat_map call_replies (calls (history_of turns))) s.filed

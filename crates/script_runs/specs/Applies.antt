@@ -2,7 +2,7 @@
 use Rattle.std.specs.Prelude.{ℕ, ◌≡◌, ◌≤◌, ◌+◌, ◌^◌, Bool, List, [], ◌++◌, length, Option, Result, IfOk}
 use Rattle.std.specs.List.{flat_map}
 use Rattle.gate_io.specs.Flow.{Gives}
-use Rattle.frame_codec.specs.declared.item.Item.{Item}
+use Rattle.playout.specs.declared.call.Call.{Call}
 use Rattle.playout.specs.declared.reply.FileReply.{FileReply}
 use Rattle.playout.specs.History.{IsLegal, after_all, calls, calls_of}
 use Rattle.recorder.specs.declared.events.ScriptEvent.{ScriptEvent}
@@ -18,7 +18,7 @@ use Rattle.gate_notes.specs.Exchange.{Giving}
 
 -- what the callers of a run know
 abbrev pub callers_of : Run → Callers
-callers_of run = record { filers = run.filers.items; ticked = run.ticked }
+callers_of run = record { filers = run.filers.items; opened = run.opened }
 
 -- The run made a turn of this kind, with the machine's replies. Its counts go on by it.
 pub record Makes (IsKind : Callers → Turn → Callers → Type 0) (old new : Run) (turn : Turn) : Type 0 where
@@ -27,7 +27,7 @@ pub record Makes (IsKind : Callers → Turn → Callers → Type 0) (old new : R
   pub line : new.line ≡ record old.line { machine = after_all old.line.machine turn.calls }
   pub filers : length new.filers.items ≡ length old.filers.items
   pub slow : new.line.machine.position ≤ old.line.machine.position + 1
-  pub played : (items : List Item) → old.played ≡ play_tally items → new.played ≡ play_tally (items ++ flat_map call_items (calls_of old.line.filers turn.calls))
+  pub played : (before : List Call) → old.played ≡ play_tally before → new.played ≡ play_tally (before ++ calls_of old.line.filers turn.calls)
   pub filed : (ends : List Ended) (replies : List FileReply) → old.filed ≡ run_tally ends replies → new.filed ≡ run_tally (ends ++ turn.ends) (replies ++ flat_map call_replies (calls turn.calls))
 
 -- it made the event's turn

@@ -1,10 +1,10 @@
 -- What the events of a script result in: the calls that they make, and the ends of their datagrams.
-use Rattle.std.specs.Prelude.{ℕ, ◌≡◌, ◌-◌, ◌<◌, ◌^◌, List, [], ◌∷◌, map, replicate, slice_get, slice_set, Bool, true, false, Some, None, ◌⊎◌}
+use Rattle.std.specs.Prelude.{ℕ, ◌≡◌, ◌-◌, ◌<◌, ◌^◌, List, [], ◌∷◌, map, replicate, slice_get, slice_set, Bool, true, false, Some}
 use Rattle.std.specs.List.{flat_map}
 use Rattle.frame_codec.specs.declared.item.Item.{Item}
 use Rattle.playout.specs.declared.reply.FileReply.{FileReply}
 use Rattle.playout.specs.declared.call.Call.{Call}
-use Rattle.playout.specs.declared.call.Call.TheVariants.{FileCall, PeekCall, TickCall}
+use Rattle.playout.specs.declared.call.Call.TheVariants.{FileCall, TickCall}
 use Rattle.playout.specs.Line.{FilerSteps, Line}
 use Rattle.playout.specs.History.{Chained, Entry, entry}
 use Rattle.recorder.specs.declared.events.ScriptEvent.{ScriptEvent}
@@ -13,11 +13,13 @@ use Rattle.recorder.specs.Heads.{Heading}
 use Rattle.filer.specs.declared.outcome.Outcome.{Outcome}
 use Rattle.filer.specs.declared.outcome.OutcomeEnd.{OutcomeEnd}
 use Rattle.filer.specs.Takes as takes
+use Rattle.player.specs.Beats.{opened_after}
+use Rattle.player.specs.Beats as beats
 
--- what the callers know: each filer, by its caller number, and whether the player has made a tick
+-- what the callers know: each filer, by its caller number, and whether the player has seen a base or made a tick
 pub record Callers : Type 0 where
   pub filers : List takes.Known
-  pub ticked : Bool
+  pub opened : Bool
 
 -- how the datagram of a filer ended
 pub record Ended : Type 0 where
@@ -35,7 +37,7 @@ new_filer delay = takes.new_filer delay 0 (2 ^ 32 - 1)
 
 -- before any event
 abbrev pub opening_callers : Heading → Callers
-opening_callers h = record { filers = replicate h.filers (new_filer h.delay); ticked = false }
+opening_callers h = record { filers = replicate h.filers (new_filer h.delay); opened = false }
 
 -- calls of one caller, as entries of a history
 abbrev pub made_by : ℕ → List Call → List Entry
@@ -45,20 +47,14 @@ made_by who calls = map (entry who) calls
 abbrev pub bare : List Entry → Turn
 bare calls = record { calls = calls; ends = [] }
 
--- the player has made a tick
-abbrev pub has_ticked : Callers → Callers
-has_ticked c = record c { ticked = true }
-
 -- the player's tick
 abbrev pub IsTick : ℕ → Callers → Turn → Callers → Type 0
-IsTick player before turn after = (item : Item) × (turn ≡ bare (entry player (TickCall item) ∷ [])) × (after ≡ has_ticked before)
+IsTick player before turn after = (item : Item) × (turn ≡ bare (entry player (TickCall item) ∷ [])) × (after ≡ record before { opened = true })
 
--- The player's beat. Before its first tick it peeks: without a base it is idle, and with one it ticks. From then on it ticks.
+-- The player's beat, by its own rule, where a base was seen or a tick made before, or not. It holds no number.
 abbrev pub IsBeat : Bool → ℕ → Callers → Turn → Callers → Type 0
-IsBeat true player before turn after = IsTick player before turn after
-IsBeat false player before turn after =
-    ((turn ≡ bare (entry player (PeekCall None) ∷ [])) × (after ≡ before))
-    ⊎ ((base : ℕ) × (item : Item) × (turn ≡ bare (entry player (PeekCall (Some base)) ∷ entry player (TickCall item) ∷ [])) × (after ≡ has_ticked before))
+IsBeat opened player before turn after =
+    (calls : List Call) × beats.IsBeat 0 0 opened calls × (turn ≡ bare (made_by player calls)) × (after ≡ record before { opened = opened_after before.opened calls })
 
 -- the filer of this caller took the datagram, with its calls over the side, and the other filers are as they were
 abbrev pub IsTakenBy : ℕ → List ℕ → ℕ → Outcome → List takes.Known → List takes.Known → Line × ℕ → Line × ℕ → Type 0
@@ -81,7 +77,7 @@ abbrev pub IsTurn : ℕ → ScriptEvent → Callers → Turn → Callers → Typ
 IsTurn filers Tick before turn after = IsTick filers before turn after
 IsTurn filers (File caller number frame) before turn after = (reply : FileReply) × (turn ≡ bare (entry caller (FileCall number frame reply) ∷ [])) × (after ≡ before)
 IsTurn filers (Datagram caller at octets) before turn after = IsDatagram caller at octets before turn after
-IsTurn filers Beat before turn after = IsBeat before.ticked filers before turn after
+IsTurn filers Beat before turn after = IsBeat before.opened filers before turn after
 
 -- what the events result in, in the events' order
 abbrev pub AreTurns : ℕ → Callers → List ScriptEvent → List Turn → Callers → Type 0

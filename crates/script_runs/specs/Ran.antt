@@ -56,7 +56,7 @@ Has (Err WriteFault) before now text = AppendsPart before now text
 -- at the end mark the run has counted the turns
 abbrev pub HasCounted : Result Run Stop → Heading → List Turn → Type 0
 HasCounted (Ok run) h turns =
-    (run.played ≡ play_tally (flat_map call_items (calls_of h.filers (history_of turns)))) × (run.filed ≡ run_tally (ends_of turns) (flat_map call_replies (calls (history_of turns))))
+    (run.played ≡ play_tally (calls_of h.filers (history_of turns))) × (run.filed ≡ run_tally (ends_of turns) (flat_map call_replies (calls (history_of turns))))
 HasCounted (Err stop) h turns = Unit {0}
 
 -- a playback has gone on by the player's calls in these turns, which gave this text

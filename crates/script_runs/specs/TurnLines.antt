@@ -2,20 +2,17 @@
 use Rattle.std.specs.Prelude.{ℕ, List, [], ◌++◌, codes}
 use Rattle.std.specs.List.{flat_map}
 use Rattle.playout.specs.declared.call.Call.{Call}
-use Rattle.playout.specs.declared.call.Call.TheVariants.{FileCall, SourceCall, BaseCall, PeekCall, TickCall}
+use Rattle.playout.specs.declared.call.Call.TheVariants.{FileCall}
 use Rattle.playout.specs.History.{Entry, calls_of, calls}
-use Rattle.recorder.specs.Tallies.{call_items, call_replies, play_tally}
+use Rattle.recorder.specs.Tallies.{call_replies, play_tally}
 use Rattle.gate_notes.specs.Notes.{own_line, play_line, reply_line, tally_line}
 use Rattle.script_runs.specs.Calls.{Ended, Turn, ends_of, history_of}
 use Rattle.script_runs.specs.Counts.{run_tally}
 
--- the line of a caller's call
+-- the line of a caller's call: only that of a filed frame may have one
 abbrev pub line_of_call : ℕ → Call → List ℕ
 line_of_call who (FileCall n f reply) = reply_line who n reply
-line_of_call who (SourceCall x held) = []
-line_of_call who (BaseCall x held) = []
-line_of_call who (PeekCall held) = []
-line_of_call who (TickCall item) = []
+line_of_call who _ = []
 
 abbrev pub entry_line : Entry → List ℕ
 entry_line e = line_of_call e.who e.call
@@ -38,4 +35,4 @@ run_lines turns = flat_map turn_lines turns
 -- the summary of a run: the player's calls, and all datagrams and replies
 abbrev pub summary : ℕ → List Turn → List ℕ
 summary filers turns =
-    play_line (play_tally (flat_map call_items (calls_of filers (history_of turns)))) ++ tally_line (codes "all") (run_tally (ends_of turns) (flat_map call_replies (calls (history_of turns))))
+    play_line (play_tally (calls_of filers (history_of turns))) ++ tally_line (codes "all") (run_tally (ends_of turns) (flat_map call_replies (calls (history_of turns))))

@@ -1,17 +1,18 @@
 // What becomes of the player's beats.
-ghost use Rattle.std.specs.Prelude.{◌∷◌, [], List, ℕ, ℤ};
+ghost use Rattle.std.specs.Prelude.{[], List, ℕ, ℤ};
 ghost use Rattle.std.specs.List.{flat_map};
 ghost use Rattle.gate_base.specs.Faults.{HasCause};
 ghost use Rattle.gate_io.specs.Flow.{Gives};
 ghost use Rattle.substitution.specs.Heard.{sample_octets};
 ghost use Rattle.recorder.specs.Play.{call_text};
-ghost use Rattle.player.specs.Beats.{Speaks, calls_of, item_of};
+ghost use Rattle.recorder.specs.Tallies.{call_items};
+ghost use Rattle.player.specs.Beats.{GivesOne, Speaks};
 ghost use Rattle.script_runs.specs.Playing.{GoesOn, Stands, end_text, front_text};
 
 use byteorder::{ByteOrder, LittleEndian};
 use frame_codec::Item;
 use gate_io::{Failed, Sink};
-use player::{Found, item_of_found, write_found};
+use player::{BeatCalls, item_of_beat, write_calls};
 use recorder::{Head, write_end, write_play_head};
 use substitution::Voice;
 
@@ -47,16 +48,17 @@ impl Playback {
         }
     }
 
-    /// Gives what the player found: to a journal its events, each in one give, or the 160 samples of its item in one.
-    pub fn found<O: Sink>(&mut self, found: &Found, output: &mut O) -> Result<(), Failed>
-        ensures played { (text : List ℕ) × GoesOn (flat_map call_text (calls_of found.now)) (item_of found.now ∷ []) self.old self.new text
+    /// Gives the calls of a beat: to a journal their events, each in one give, or the 160 samples of its item in one.
+    pub fn beat<O: Sink>(&mut self, calls: &BeatCalls, output: &mut O) -> Result<(), Failed>
+        requires { GivesOne calls.now }
+        ensures played { (text : List ℕ) × GoesOn (flat_map call_text calls.now) (flat_map call_items calls.now) self.old self.new text
             × Gives (O.given output.old) (O.given output.new) result text }
         ensures cause { HasCause (O.faults output.old) (O.faults output.new) result }
         ensures kin { O.kin output.old output.new }
     {
         match self {
-            Playback::Journal => write_found(found, output),
-            Playback::Pcm(voice) => speak(voice, item_of_found(found), output),
+            Playback::Journal => write_calls(calls, output),
+            Playback::Pcm(voice) => speak(voice, item_of_beat(calls), output),
         }
     }
 

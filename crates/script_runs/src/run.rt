@@ -1,5 +1,5 @@
 // A script's run as it goes on.
-ghost use Rattle.std.specs.Prelude.{◌≡◌, ◌≤◌, ◌<◌, ◌^◌, List, OnErr, length, false};
+ghost use Rattle.std.specs.Prelude.{◌≡◌, ◌≤◌, ◌<◌, ◌+◌, ◌^◌, List, OnErr, length, false};
 ghost use Rattle.gate_base.specs.Faults.{HasCause};
 ghost use Rattle.recorder.specs.Tallies.{no_plays, no_tally};
 ghost use Rattle.recorder.specs.declared.events.ScriptEvent.TheVariants.{File, Datagram};
@@ -14,7 +14,7 @@ use filer::{Filer, count_end};
 use frame_codec::Frame33;
 use gate_io::{Failed, Sink};
 use gate_notes::{give_end, give_reply};
-use player::{item_of_found, look, opens};
+use player::{ask, count_calls, opened_after};
 use playout::{MapFiler, MapLine, MapPlayer};
 use recorder::{Packet, PlayTally, ScriptEvent, Tally};
 
@@ -24,8 +24,8 @@ pub struct Run {
     pub line: MapLine,
     /// The filers, by their caller numbers.
     pub filers: Vec<Filer>,
-    /// Whether the player has made a tick.
-    pub ticked: bool,
+    /// Whether the player has seen a base or made a tick.
+    pub opened: bool,
     pub played: PlayTally,
     pub filed: Tally,
 }
@@ -35,12 +35,12 @@ impl Run {
 
     /// A run before its first event.
     pub fn new(line: MapLine, filers: Vec<Filer>) -> Run
-        ensures { result ≡ record { line = line; filers = filers; ticked = false; played = no_plays; filed = no_tally } }
+        ensures { result ≡ record { line = line; filers = filers; opened = false; played = no_plays; filed = no_tally } }
     {
         Run {
             line,
             filers,
-            ticked: false,
+            opened: false,
             played: PlayTally::new(),
             filed: Tally::new(),
         }
@@ -57,7 +57,7 @@ impl Run {
     ) -> Result<Run, Failed>
         requires callable { IsCallable self.line.filers event.now }
         requires filers { length self.filers.items ≡ self.line.filers }
-        requires position { self.line.machine.position < 2 ^ 33 }
+        requires position { self.line.machine.position + 1 < 2 ^ 33 }
         ensures applied { HasApplied event.now self result playback.old playback.new (giving_of O.Sink E.Sink output.old output.new notes.old notes.new) }
         ensures later { (O.faults output.old ≤ O.faults output.new) × (E.faults notes.old ≤ E.faults notes.new) }
         ensures failed { OnErr result (GiveFailed O.Sink E.Sink output.old output.new notes.old notes.new) }
@@ -74,20 +74,20 @@ impl Run {
                 self.datagram(*caller, *at, octets, notes)
             }
             ScriptEvent::Beat => {
-                let opened = self.ticked;
+                let opened = self.opened;
                 self.play(opened, playback, output)
             }
         }
     }
 
-    // What the player plays: `opened` says whether a base was seen or a tick made before.
+    // What the player plays: `opened` says whether a base was seen or a tick made before. It holds no number.
     fn play<O: Sink>(
         self,
         opened: bool,
         playback: &mut Playback,
         output: &mut O,
     ) -> Result<Run, Failed>
-        requires position { self.line.machine.position < 2 ^ 33 }
+        requires position { self.line.machine.position + 1 < 2 ^ 33 }
         ensures applied { HasPlayed opened self result playback.old playback.new (O.given output.old) (O.given output.new) }
         ensures cause { HasCause (O.faults output.old) (O.faults output.new) result }
         ensures kin { O.kin output.old output.new }
@@ -95,21 +95,21 @@ impl Run {
         let Run {
             line,
             filers,
-            ticked,
+            opened: before,
             mut played,
             filed,
         } = self;
         let mut side = MapPlayer::of(line);
-        let found = look(opened, &mut side);
-        played.item(&item_of_found(&found));
+        let calls = ask(0, 0, opened, &mut side);
+        count_calls(&calls, &mut played);
         let run = Run {
             line: side.back(),
             filers,
-            ticked: ticked | opens(&found),
+            opened: opened_after(before, &calls),
             played,
             filed,
         };
-        match playback.found(&found, output) {
+        match playback.beat(&calls, output) {
             Ok(()) => Ok(run),
             Err(Failed) => Err(Failed),
         }
@@ -154,7 +154,7 @@ impl Run {
         let Run {
             line,
             mut filers,
-            ticked,
+            opened,
             played,
             mut filed,
         } = self;
@@ -164,7 +164,7 @@ impl Run {
         let run = Run {
             line: side.back(),
             filers,
-            ticked,
+            opened,
             played,
             filed,
         };

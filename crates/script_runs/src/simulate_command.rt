@@ -104,7 +104,7 @@ pub fn simulate<I: Source, O: Sink, E: Sink>(
     ensures complete { Completes result (I.left input.old) (Rose (I.faults input.old) (I.faults input.new) ⊎ GiveFailed O.Sink E.Sink output.old output.new notes.old notes.new) }
     ensures kin { O.kin output.old output.new × E.kin notes.old notes.new }
 {
-    // A script is never refused.
+    // A valid script is never refused.
     scripts_have_no_fault();
     let mut reader = ScriptReader::new();
     let head = match reader.head(input) {

@@ -2,7 +2,7 @@ use Rattle.std.proofs.Common.{List, ℕ, [], sym, subst}
 use Rattle.gate_io.specs.Flow.{Gives}
 use Rattle.recorder.specs.declared.events.ScriptEvent.{ScriptEvent}
 use Rattle.script_runs.specs.Applies.{Applies}
-use Rattle.script_runs.proofs.Events.{beat-applies}
+use Rattle.script_runs.proofs.Events.{beat-applies, tick-applies}
 use Rattle.script_runs.proofs.Playbacks.{Gives-none, silent-goes-on}
 use Rattle.script_runs.proofs.run.Run.apply.Goals as goal
 
@@ -13,7 +13,7 @@ returns-in-Tick-clause-applied g c =
       did.0,
       did.1,
       did.2,
-      subst (λ (e : ScriptEvent). Applies e c.args.self did.0 did.1) (sym c.in-Tick.is) did.3,
+      subst (λ (e : ScriptEvent). Applies e c.args.self did.0 did.1) (sym c.in-Tick.is) (tick-applies c.args.self did.0 did.1 did.3),
       did.4,
       did.5,
       did.6,

@@ -21,7 +21,7 @@ returns-in-Ok-clause-applied g c =
     let given = g.E.Sink.given in
     let taken = c.take_by-outcome.ensures.taken in
     let cs = calls_of taken.0 c.args.octets.now c.args.at o in
-    let new : Run = record { line = c.back.result; filers = with_items old.filers c.take_by-outcome.new.filers; ticked = old.ticked; played = old.played; filed = c.count_end.new.tally } in
+    let new : Run = record { line = c.back.result; filers = with_items old.filers c.take_by-outcome.new.filers; opened = old.opened; played = old.played; filed = c.count_end.new.tally } in
     let known = ap (λ (l : List Known). slice_get l caller) (sym c.as_mut_slice.ensures.value) ∙ taken.2 in
     let filers = taken.3 ∙ ap (λ (l : List Known). slice_set l caller taken.1) c.as_mut_slice.ensures.value in
     let long : length c.take_by-outcome.new.filers ≡ old.filers.len = omega (arith, ap (λ (l : List Known). length l) filers, length-set old.filers.items caller taken.1, old.filers.ok.0) in
@@ -43,7 +43,7 @@ returns-in-Err-clause-applied g c =
     let given = g.E.Sink.given in
     let taken = c.take_by-outcome.ensures.taken in
     let cs = calls_of taken.0 c.args.octets.now c.args.at o in
-    let new : Run = record { line = c.back.result; filers = with_items old.filers c.take_by-outcome.new.filers; ticked = old.ticked; played = old.played; filed = c.count_end.new.tally } in
+    let new : Run = record { line = c.back.result; filers = with_items old.filers c.take_by-outcome.new.filers; opened = old.opened; played = old.played; filed = c.count_end.new.tally } in
     let known = ap (λ (l : List Known). slice_get l caller) (sym c.as_mut_slice.ensures.value) ∙ taken.2 in
     let filers = taken.3 ∙ ap (λ (l : List Known). slice_set l caller taken.1) c.as_mut_slice.ensures.value in
     let long : length c.take_by-outcome.new.filers ≡ old.filers.len = omega (arith, ap (λ (l : List Known). length l) filers, length-set old.filers.items caller taken.1, old.filers.ok.0) in

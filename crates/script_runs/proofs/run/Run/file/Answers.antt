@@ -16,7 +16,7 @@ returns-in-Ok-clause-applied g c =
     let frame = c.args.frame.now in
     let reply = c.file-reply.result in
     let given = g.E.Sink.given in
-    let new : Run = record { line = c.file-reply.new.self; filers = old.filers; ticked = old.ticked; played = old.played; filed = c.reply.new.self } in (
+    let new : Run = record { line = c.file-reply.new.self; filers = old.filers; opened = old.opened; played = old.played; filed = c.reply.new.self } in (
       new,
       bare (entry c.args.caller (FileCall number frame reply) ∷ []),
       file_applies old new c.args.caller number frame reply c.requires.caller (c.file-reply.ensures.reply, c.file-reply.ensures.after) refl refl refl c.reply.ensures,
@@ -32,7 +32,7 @@ returns-in-Err-clause-applied g c =
     let frame = c.args.frame.now in
     let reply = c.file-reply.result in
     let given = g.E.Sink.given in
-    let new : Run = record { line = c.file-reply.new.self; filers = old.filers; ticked = old.ticked; played = old.played; filed = c.reply.new.self } in (
+    let new : Run = record { line = c.file-reply.new.self; filers = old.filers; opened = old.opened; played = old.played; filed = c.reply.new.self } in (
       new,
       bare (entry c.args.caller (FileCall number frame reply) ∷ []),
       file_applies old new c.args.caller number frame reply c.requires.caller (c.file-reply.ensures.reply, c.file-reply.ensures.after) refl refl refl c.reply.ensures,
