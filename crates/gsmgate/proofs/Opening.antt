@@ -1,10 +1,10 @@
 -- The objects of a gateway, one more, and what the words come to.
-use Rattle.std.proofs.Common.{◌≡◌, inl, inr, ℕ, zero, suc, ◌+◌, ◌<◌, slice_index_or, slice_set, List, [], ◌∷◌, ◌++◌, map, length, length-append, Option, Some, None, true, false, ap, refl, subst, sym, ◌∙◌, arith}
+use Rattle.std.proofs.Common.{◌≡◌, inr, ℕ, zero, suc, ◌+◌, ◌<◌, slice_index_or, slice_set, List, [], ◌∷◌, ◌++◌, map, length, length-append, Option, Some, None, true, false, ap, refl, subst, sym, ◌∙◌, arith}
 use Rattle.std.specs.Prelude.{IsSome, IfSome}
 use Rattle.std.proofs.lemmas.List.{length-map}
 use Rattle.std.specs.List.{AllByRecursion}
 use Rattle.std.specs.String.{string_bytes}
-use Rattle.gate_os.specs.Edges.{SocketState, lasting}
+use Rattle.gate_os.specs.Edges.{SocketState}
 use Rattle.command_line.specs.Said.{Text}
 use Rattle.command_line.specs.Lines.{Said}
 use Rattle.command_line.specs.declared.line.Line.TheVariants as line

@@ -9,7 +9,7 @@ use Rattle.recorder.specs.Heads.{Heading, head_text, play_magic}
 use Rattle.recorder.specs.Tallies.{play_tally}
 use Rattle.slot_ring.specs.Seen.{PassView, Grown}
 use Rattle.player.specs.Beats.{Playing, Starts, standing}
-use Rattle.player.specs.Whole.{PlayerGave, PlayerTold, items_in}
+use Rattle.player.specs.Whole.{PlayerGave, PlayerTold}
 use Rattle.player.specs.declared.run.PlayerEnd.{PlayerEnd}
 use Rattle.player.specs.declared.run.PlayerEnd.TheVariants.{Ended, SpeakerFault, JournalFault, MicFault, ReplyFault}
 use Rattle.line_run.specs.declared.options.LineOptions.{LineOptions}
@@ -25,23 +25,23 @@ pub record PlayedOver (o : LineOptions) (a : PlayerSeen) (j : SinkSeen) (b : Pla
   pub same : (result.ring ≡ pass.ring) × (result.who ≡ pass.who)
   pub played : PassPlayed o result.list a j b j' end tally
 
-pub played_over : (o : LineOptions) (a b : PlayerSeen) (j j' : SinkSeen) (pass side side2 result : PassView) (p q : Playing) (at at2 : ℕ) (end : PlayerEnd) (tally : PlayTally)
-    → side ≡ pass → result ≡ side2 → pass.list ≡ [] → Starts o.seed o.own o.sequence o.stamp o.ticks p
-    → PlayerTold Grown o.seed o.own o.sequence o.stamp j.faults j'.faults (standing p side at a.speaker.given j.given a.microphone.left a.reply.log) (standing q side2 at2 b.speaker.given j'.given b.microphone.left b.reply.log) end
+pub played_over : (o : LineOptions) (a b : PlayerSeen) (j j' : SinkSeen) (pass side side2 result : PassView) (p q : Playing) (at at2 slots slots2 : ℕ) (end : PlayerEnd) (tally : PlayTally)
+    → side ≡ pass → result ≡ side2 → pass.list ≡ [] → slots ≡ o.g → Starts o.seed o.own o.sequence o.stamp o.ticks o.elastic p
+    → PlayerTold Grown o.seed o.own o.sequence o.stamp o.elastic j.faults j'.faults (standing p side at slots a.speaker.given j.given a.microphone.left a.reply.log) (standing q side2 at2 slots2 b.speaker.given j'.given b.microphone.left b.reply.log) end
     → b.clock.ticks ≡ a.clock.ticks + q.made → q.made ≤ p.ticks → (end ≡ Ended → (b.clock.ended ≡ true) ⊎ (q.made ≡ p.ticks)) → tally ≡ q.tally → b.reply.ended ≡ a.reply.ended
     → PlayedOver o a j b j' pass result end tally
-played_over o a b j j' pass side side2 result p q at at2 end tally first last none starts told ticked within ended counted open_still =
+played_over o a b j j' pass side side2 result p q at at2 slots slots2 end tally first last none size starts told ticked within ended counted open_still =
     let h = all_grown side told.calls side2 told.side in
     let calls : told.calls ≡ result.list = sym (ap (λ (x : PassView). x.list) last ∙ (h.2 ∙ (λ i. ((ap (λ (x : PassView). x.list) first ∙ none) i) ++ told.calls))) in
     record {
       same = (ap (λ (x : PassView). x.ring) last ∙ (h.0 ∙ ap (λ (x : PassView). x.ring) first), ap (λ (x : PassView). x.who) last ∙ (h.1 ∙ ap (λ (x : PassView). x.who) first));
       played = record {
         made = q.made;
-        gave = subst (λ (l : List Call). PlayerGave o.seed o.own o.sequence o.stamp j.faults j'.faults q.made l (ports a j) (ports b j') end) calls told.gave;
+        gave = subst (λ (x : List Call × ℕ). PlayerGave o.seed o.own o.sequence o.stamp o.elastic x.1 j.faults j'.faults q.made x.0 (ports a j) (ports b j') end) (λ i. (calls i, size i)) told.gave;
         ticked = ticked;
         within = subst (λ (n : ℕ). q.made ≤ n) starts.limit within;
         ended = subst (λ (n : ℕ). end ≡ Ended → (b.clock.ended ≡ true) ⊎ (q.made ≡ n)) starts.limit ended;
-        counted = counted ∙ (told.tally ∙ ap (λ (l : List Call). play_tally (items_in l)) calls);
+        counted = counted ∙ (told.tally ∙ ap play_tally calls);
         open_still = open_still;
       };
     }

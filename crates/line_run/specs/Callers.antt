@@ -11,7 +11,7 @@ use Rattle.recorder.specs.Tallies.{play_tally}
 use Rattle.filer.specs.declared.run.FilerEnd.{FilerEnd}
 use Rattle.player.specs.declared.run.PlayerEnd.{PlayerEnd}
 use Rattle.player.specs.declared.run.PlayerEnd.TheVariants.{Ended}
-use Rattle.player.specs.Whole.{PlayerGave, items_in}
+use Rattle.player.specs.Whole.{PlayerGave}
 use Rattle.line_run.specs.declared.caller.Caller.{Caller}
 use Rattle.line_run.specs.declared.options.LineOptions.{LineOptions}
 use Rattle.line_run.specs.declared.player_caller.PlayerCaller.{PlayerCaller}
@@ -36,13 +36,14 @@ pub record Stands (l : LineSeen) (ring : Where) (a : Caller) : Type 0 where
 abbrev pub AreNew : LineSeen → Where → List Caller → Type 0
 AreNew l ring cs = (i : ℕ) (c : Caller) → get_elem? cs i ≡ some c → Stands l ring c × (c.number ≡ i)
 
--- the player has a pass of this ring, and has made no call
-pub record PlayerStands (ring : Where) (a : PlayerCaller) : Type 0 where
+-- the player has a pass of this ring, which has the slots of the line, and has made no call
+pub record PlayerStands (l : LineSeen) (ring : Where) (a : PlayerCaller) : Type 0 where
   pub pass : PassView
   pub has : a.pass ≡ Some pass
   pub of_ring : pass.ring ≡ ring
   pub who : pass.who ≡ ring.shape.filers
   pub list : pass.list ≡ []
+  pub slots : ring.shape.g ≡ l.options.g
 
 -- the right to each caller from one number to another, both included
 abbrev pub HasRightsFrom : ℕ → ℕ → List Bool → Type 0
@@ -70,11 +71,11 @@ pub record PlayerRan (l : LineSeen) (ring : Where) (a : PlayerSeen) (j : SinkSee
 -- a player that had made no beat ran over a pass, with these calls
 pub record PassPlayed (o : LineOptions) (calls : List Call) (a : PlayerSeen) (j : SinkSeen) (b : PlayerSeen) (j' : SinkSeen) (end : PlayerEnd) (tally : PlayTally) : Type 0 where
   pub made : ℕ
-  pub gave : PlayerGave o.seed o.own o.sequence o.stamp j.faults j'.faults made calls (ports a j) (ports b j') end
+  pub gave : PlayerGave o.seed o.own o.sequence o.stamp o.elastic o.g j.faults j'.faults made calls (ports a j) (ports b j') end
   pub ticked : b.clock.ticks ≡ a.clock.ticks + made
   pub within : made ≤ o.ticks
   pub ended : end ≡ Ended → (b.clock.ended ≡ true) ⊎ (made ≡ o.ticks)
-  pub counted : tally ≡ play_tally (items_in calls)
+  pub counted : tally ≡ play_tally calls
   pub open_still : b.reply.ended ≡ a.reply.ended
 
 -- All callers ran: the player over the first journal, and each filer over its link and its place of the other journals.

@@ -7,7 +7,7 @@ use Rattle.playout.specs.declared.call.Call.{Call}
 use Rattle.recorder.specs.declared.tally.PlayTally.{PlayTally}
 use Rattle.recorder.specs.Heads.{head_text, play_magic}
 use Rattle.recorder.specs.Tallies.{no_plays, play_tally}
-use Rattle.player.specs.Whole.{PlayerGave, Ports, items_in}
+use Rattle.player.specs.Whole.{PlayerGave, Ports}
 use Rattle.player.specs.declared.run.PlayerEnd.{PlayerEnd}
 use Rattle.player.specs.declared.run.PlayerEnd.TheVariants.{Ended, SpeakerFault, JournalFault, MicFault, ReplyFault}
 use Rattle.line_run.specs.declared.options.LineOptions.{LineOptions}
@@ -18,17 +18,18 @@ use Rattle.line_run.specs.Seen.{PlayerSeen, SinkSeen}
 abbrev pub ports : PlayerSeen → SinkSeen → Ports
 ports a journal = record { heard = a.speaker.given; written = journal.given; left = a.microphone.left; log = a.reply.log }
 
--- Its journal was given the head, and then a player that had made no beat ran: one beat for each tick of the clock, with these calls.
+-- Its journal was given the head, and then a player that had made no beat ran: one beat for each tick of the clock, with these calls, within
+-- the limit of the line.
 pub record PlayerWent (filers : ℕ) (o : LineOptions) (a : PlayerSeen) (j : SinkSeen) (b : PlayerSeen) (j' : SinkSeen) (calls : List Call) (end : PlayerEnd) (tally : PlayTally) : Type 0 where
   pub opened : SinkSeen
   pub made : ℕ
   pub head : Appends j.given opened.given (head_text play_magic (heading filers o))
   pub later : j.faults ≤ opened.faults
-  pub gave : PlayerGave o.seed o.own o.sequence o.stamp opened.faults j'.faults made calls (ports a opened) (ports b j') end
+  pub gave : PlayerGave o.seed o.own o.sequence o.stamp o.elastic o.g opened.faults j'.faults made calls (ports a opened) (ports b j') end
   pub ticked : b.clock.ticks ≡ a.clock.ticks + made
   pub within : made ≤ o.ticks
   pub ended : end ≡ Ended → (b.clock.ended ≡ true) ⊎ (made ≡ o.ticks)
-  pub counted : tally ≡ play_tally (items_in calls)
+  pub counted : tally ≡ play_tally calls
   pub open_still : b.reply.ended ≡ a.reply.ended
 
 -- its journal failed at the head: no tick was taken, and it made no call

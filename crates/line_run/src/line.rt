@@ -25,5 +25,5 @@ impl Model for Line {
 
     ghost view = { λ l. l.plan };
 
-    ghost invariant = { λ l. AreNew l.plan l.ring l.callers.items × (length l.callers.items ≡ l.plan.filers) × PlayerStands l.ring l.player × (l.blank.ring ≡ l.ring) × (l.ring.shape.filers ≡ l.plan.filers) × (l.ring.shape.g ≡ l.plan.options.g) × (l.plan.filers ≤ 64) };
+    ghost invariant = { λ l. AreNew l.plan l.ring l.callers.items × (length l.callers.items ≡ l.plan.filers) × PlayerStands l.plan l.ring l.player × (l.blank.ring ≡ l.ring) × (l.ring.shape.filers ≡ l.plan.filers) × (l.ring.shape.g ≡ l.plan.options.g) × (l.plan.filers ≤ 64) };
 }

@@ -19,4 +19,6 @@ pub struct LineOptions {
     pub sequence: u16,
     /// The timestamp of that packet, in samples at 8 kHz.
     pub stamp: u32,
+    /// By how many frames of 20 ms the player may let the delay grow, 0 to 15; 0 where the ring has one slot.
+    pub elastic: u32,
 }

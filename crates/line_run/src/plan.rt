@@ -1,5 +1,5 @@
 // What a line is opened with.
-ghost use Rattle.std.specs.Prelude.{◌≡◌, ◌≤◌};
+ghost use Rattle.std.specs.Prelude.{◌≡◌, ◌⊎◌, ◌≤◌};
 ghost use Rattle.filer.specs.Takes.{new_filer};
 ghost use Rattle.player.specs.Beats.{Starts};
 ghost use Rattle.line_run.specs.Opening.{AreOptions, heading};
@@ -58,9 +58,10 @@ impl Plan {
         Filer::new(self.options.delay, self.options.own, self.options.report)
     }
 
-    /// A player that has made no beat.
+    /// A player that has made no beat. It may hold numbers only where the ring has two slots.
     pub(crate) fn player(&self) -> Player
-        ensures { Starts self.now.options.seed self.now.options.own self.now.options.sequence self.now.options.stamp self.now.options.ticks result }
+        ensures slots { (self.now.options.elastic ≡ 0) ⊎ (1 ≤ self.now.options.g) }
+        ensures starts { Starts self.now.options.seed self.now.options.own self.now.options.sequence self.now.options.stamp self.now.options.ticks self.now.options.elastic result }
     {
         Player::new(
             self.options.seed,
@@ -68,6 +69,7 @@ impl Plan {
             self.options.sequence,
             self.options.stamp,
             self.options.ticks,
+            self.options.elastic,
         )
     }
 }

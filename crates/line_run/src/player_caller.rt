@@ -31,7 +31,7 @@ pub(crate) fn run_playing<I: Source, O: Sink, J: Sink, P: Link, C: TickClock>(
     microphone: &mut I,
     reply: &mut P,
 )
-    requires { PlayerStands ring.now caller.old }
+    requires { PlayerStands plan.now ring.now caller.old }
     ensures ran { PlayerRanOver C.TickClock O.Sink J.Sink I.Source P.Link plan.now ring.now (ports_at clock.old speaker.old journal.old microphone.old reply.old) (ports_at clock.new speaker.new journal.new microphone.new reply.new) caller.new }
     ensures kin { O.kin speaker.old speaker.new }
     ensures journal_kin { J.kin journal.old journal.new }
@@ -73,6 +73,7 @@ fn play_over<L: Ledger, I: Source, O: Sink, J: Sink, P: Link, C: TickClock>(
 ) -> (PlayerPass, PlayerEnd, PlayTally)
     requires ring { pass.ring ≡ ring.now }
     requires list { pass.list ≡ [] }
+    requires slots { ring.now.shape.g ≡ plan.now.options.g }
     requires name { blank.name ≡ L.name }
     requires parts { (blank.parts ≡ L.parts) × (blank.parts ≡ 1) }
     ensures pass { (result.0.ring ≡ pass.ring) × (result.0.who ≡ pass.who) }

@@ -41,7 +41,7 @@ fn all_at_once<
 )
     requires many { (length links.old ≡ length callers.old) × (length journals.old ≡ length callers.old) }
     requires filers { AtEach (Stands plan.now ring.now) callers.old }
-    requires player { PlayerStands ring.now player.old }
+    requires player { PlayerStands plan.now ring.now player.old }
     ensures filers { FilersRanOver P.Link J.Sink plan.now ring.now callers.old links.old journals.old callers.new links.new journals.new }
     ensures player { PlayerRanOver C.TickClock O.Sink J.Sink I.Source P.Link plan.now ring.now (ports_at clock.old speaker.old journal.old microphone.old reply.old) (ports_at clock.new speaker.new journal.new microphone.new reply.new) player.new }
     ensures kin { O.kin speaker.old speaker.new }
@@ -84,7 +84,7 @@ fn run_all<
     requires links { length links.old.items ≡ length callers.old.items }
     requires journals { length journals.old.items ≡ 1 + length callers.old.items }
     requires filers { AreNew plan.now ring.now callers.old.items }
-    requires player { PlayerStands ring.now player.old }
+    requires player { PlayerStands plan.now ring.now player.old }
     ensures ran { AllRanOver P.Link I.Source O.Sink J.Sink C.TickClock plan.now ring.now callers.old.items (objects links.old reply.old microphone.old speaker.old journals.old clock.old) callers.new.items (objects links.new reply.new microphone.new speaker.new journals.new clock.new) player.new }
     ensures kin { O.kin speaker.old speaker.new }
 {

@@ -17,6 +17,7 @@ const OPTIONS: LineOptions = LineOptions {
     own: 1,
     sequence: 0,
     stamp: 0,
+    elastic: 0,
 };
 
 // The first twelve octets of return speech.

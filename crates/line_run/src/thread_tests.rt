@@ -26,6 +26,7 @@ const OPTIONS: LineOptions = LineOptions {
     own: 1,
     sequence: 0,
     stamp: 0,
+    elastic: 0,
 };
 
 // Comes, and waits for the others, yielding between looks. Answers whether all came in time.

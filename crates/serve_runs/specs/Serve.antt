@@ -12,9 +12,9 @@ use Rattle.gate_notes.specs.Notes.{counted, play_line, tally_line}
 use Rattle.gate_notes.specs.declared.status.Status.{Status}
 use Rattle.gate_notes.specs.declared.status.Status.TheVariants.{Done, ReadFault, WriteFault, LinkFault}
 
--- the options of a line, as the words say them
+-- the options of a line, as the words say them; its delay never grows
 abbrev pub line_options : ServeOptions → LineOptions
-line_options o = record { g = o.ring; delay = o.delay; seed = o.seed; ticks = o.ticks; report = o.report; own = o.ssrc; sequence = o.sequence; stamp = o.stamp }
+line_options o = record { g = o.ring; delay = o.delay; seed = o.seed; ticks = o.ticks; report = o.report; own = o.ssrc; sequence = o.sequence; stamp = o.stamp; elastic = 0 }
 
 -- ---- the status
 

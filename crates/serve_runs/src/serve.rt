@@ -34,7 +34,7 @@ fn refused(status: Status) -> Served
     Served { status, end: None }
 }
 
-// The options of a line, as the words say them.
+// The options of a line, as the words say them. Its delay never grows.
 fn options_of(said: &ServeOptions) -> LineOptions
     ensures { result ≡ line_options said.now }
 {
@@ -47,6 +47,7 @@ fn options_of(said: &ServeOptions) -> LineOptions
         own: said.ssrc,
         sequence: said.sequence,
         stamp: said.stamp,
+        elastic: 0,
     }
 }
 

@@ -3,7 +3,7 @@ use Rattle.std.specs.String.{string_bytes}
 use Rattle.std.proofs.KnownBytes.{Keeps-refl}
 use Rattle.command_line.specs.Lines.{line_of}
 use Rattle.gsmgate.specs.Commands.{noting}
-use Rattle.gsmgate.proofs.Opening.{opened, starved}
+use Rattle.gsmgate.proofs.Opening.{opened}
 use Rattle.gsmgate.proofs.starting.open_words.Goals as goal
 
 pub returns-in-Ok-open_places : goal.returns-in-Ok-open_places
