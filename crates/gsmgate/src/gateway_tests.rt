@@ -199,11 +199,15 @@ fn each_object_of_a_line_stands_at_its_place(rt: HostRuntime) -> Result<(), Fail
         "127.0.0.1:0 astray",
     )?;
     let mut notes = no_notes(rt.alloc())?;
-    assert!(rt; all_serve(&rt, words, &mut notes));
-    assert!(rt; hears(&socket, b"spoken"));
-    assert!(rt; had(&rt, "place.said", b"said") && had(&rt, "place.heard", b"heard"));
-    assert!(rt; had(&rt, "place.player", b"played"));
-    assert!(rt; had(&rt, "place.0", b"first") && had(&rt, "place.1", b"second"));
+    assert!(rt;
+        all_serve(&rt, words, &mut notes)
+            && hears(&socket, b"spoken")
+            && had(&rt, "place.said", b"said")
+            && had(&rt, "place.heard", b"heard")
+            && had(&rt, "place.player", b"played")
+            && had(&rt, "place.0", b"first")
+            && had(&rt, "place.1", b"second")
+    );
     Ok(())
 }
 
@@ -216,9 +220,11 @@ fn a_reply_by_the_later_protocol_is_sent_by_it(rt: HostRuntime) -> Result<(), Fa
     let (socket, there) = peer(&rt, "[::1]:0")?;
     let words = serve_words(rt.alloc(), "later", 1, there.as_str(), "127.0.0.1:0")?;
     let mut notes = no_notes(rt.alloc())?;
-    assert!(rt; sends(&rt, words, &mut notes));
-    assert!(rt; hears(&socket, b"spoken"));
-    assert!(rt; remove_all(&rt, &["later.heard", "later.player", "later.0"]));
+    assert!(rt;
+        sends(&rt, words, &mut notes)
+            && hears(&socket, b"spoken")
+            && remove_all(&rt, &["later.heard", "later.player", "later.0"])
+    );
     Ok(())
 }
 
@@ -229,9 +235,11 @@ fn return_speech_leaves_from_the_first_socket(rt: HostRuntime) -> Result<(), Fai
     let listen = format!(in rt.alloc(); "{here} 127.0.0.1:0")?;
     let words = serve_words(rt.alloc(), "first", 500, there.as_str(), listen.as_str())?;
     let mut notes = no_notes(rt.alloc())?;
-    assert!(rt; sends(&rt, words, &mut notes));
-    assert!(rt; hears_from(&rt, &socket, here.as_str()));
-    assert!(rt; remove_all(&rt, &["first.heard", "first.player", "first.0", "first.1"]));
+    assert!(rt;
+        sends(&rt, words, &mut notes)
+            && hears_from(&rt, &socket, here.as_str())
+            && remove_all(&rt, &["first.heard", "first.player", "first.0", "first.1"])
+    );
     Ok(())
 }
 
@@ -241,20 +249,11 @@ fn sockets_live_a_second_longer_than_their_ticks(rt: HostRuntime) -> Result<(), 
     let short = serve_words(alloc, "short", 10, "127.0.0.1:9", "127.0.0.1:0")?;
     let long = serve_words(alloc, "long", 1000, "127.0.0.1:9", "127.0.0.1:0")?;
     let mut notes = no_notes(alloc)?;
-    assert!(rt; answer_late(&rt, short, &mut notes, Received::Ended));
-    assert!(rt; answer_late(&rt, long, &mut notes, Received::Idle));
     assert!(rt;
-        remove_all(
-            &rt,
-            &[
-                "short.heard",
-                "short.player",
-                "short.0",
-                "long.heard",
-                "long.player",
-                "long.0"
-            ]
-        )
+        answer_late(&rt, short, &mut notes, Received::Ended)
+            && answer_late(&rt, long, &mut notes, Received::Idle)
+            && remove_all(&rt, &["short.heard", "short.player", "short.0"])
+            && remove_all(&rt, &["long.heard", "long.player", "long.0"])
     );
     Ok(())
 }
@@ -265,102 +264,167 @@ link 0 datagrams 0 accepted 0 duplicate 0 late 0 beyond 0 refused 0 stranger 0 r
 
 #[test]
 fn a_line_runs_over_sockets_and_files(rt: HostRuntime) -> Result<(), Fail> {
-    let (socket, there) = peer(&rt, "127.0.0.1:0")?;
-    fs::write(&rt, "line.said", [0u8; 320].as_slice())?;
-    let packet = octets_of(rt.alloc(), "800300000000000000000001 zeros")?;
-    let words = serve_words(rt.alloc(), "line", 3, there.as_str(), "127.0.0.1:0")?;
-    let mut notes = no_notes(rt.alloc())?;
-    let status = {
-        let mut started = start(&rt, Ok(words), &mut notes);
-        run_on(&rt, rt.alloc(), &mut started, &mut notes).status
-    };
-    assert_eq!(rt; status, Status::Done);
-    assert!(rt; noted(&notes, SILENT));
-    assert!(rt; had(&rt, "line.said", &[0; 320]) && had(&rt, "line.heard", &[0; 960]));
-    assert!(rt;
-        had(
-            &rt,
-            "line.player",
-            b"GSMGPJ01\x01\x06\x00\x03\x10\x10\x10\xFF"
-        )
-    );
-    assert!(rt; had(&rt, "line.0", b"GSMGFJ01\x01\x06\x00\x03\x00\xFF"));
-    assert!(rt; hears(&socket, &packet));
-    Ok(())
-}
-
-#[test]
-fn a_socket_that_cannot_be_bound_is_a_fault_of_its_link(rt: HostRuntime) -> Result<(), Fail> {
-    fs::write(&rt, "unbound.said", [0u8; 320].as_slice())?;
-    let words = serve_words(rt.alloc(), "unbound", 3, "127.0.0.1:9", "astray")?;
-    let mut notes = no_notes(rt.alloc())?;
-    let status = {
-        let mut started = start(&rt, Ok(words), &mut notes);
-        run_on(&rt, rt.alloc(), &mut started, &mut notes).status
-    };
-    assert_eq!(rt; status, Status::LinkFault);
-    assert!(rt; had(&rt, "unbound.said", &[0; 320]) && had(&rt, "unbound.heard", &[0; 960]));
-    assert!(rt; remove_all(&rt, &["unbound.player", "unbound.0"]));
-    Ok(())
-}
-
-#[test]
-fn words_that_found_no_memory_end_so(rt: HostRuntime) -> Result<(), Fail> {
-    let mut notes = no_notes(rt.alloc())?;
-    let status = {
-        let mut started = start(&rt, Err(AllocError), &mut notes);
-        run_on(&rt, rt.alloc(), &mut started, &mut notes).status
-    };
-    assert_eq!(rt; status, Status::OutOfMemory);
-    assert!(rt; noted(&notes, ""));
-    Ok(())
-}
-
-#[test]
-fn journals_are_judged_in_the_order_of_the_words(rt: HostRuntime) -> Result<(), Fail> {
     let alloc = rt.alloc();
-    let player = octets_of(alloc, "journal 02060003 13 zeros FF")?;
-    let first = octets_of(alloc, "filer 02060003 00 22 0000000100000000 zeros FF")?;
-    let second = octets_of(alloc, "filer 02060003 01 23 0000000100000000 silence FF")?;
-    fs::write(&rt, "judged.player", player.as_slice())?;
-    fs::write(&rt, "judged.0", first.as_slice())?;
-    fs::write(&rt, "judged.1", second.as_slice())?;
-    let words = words_of(alloc, "verify judged.order judged.player judged.0 judged.1")?;
+    let packet = octets_of(alloc, "800300000000000000000001 zeros")?;
     let mut notes = no_notes(alloc)?;
+    fs::write(&rt, "line.said", [0u8; 320].as_slice())?;
+    let (socket, there) = peer(&rt, "127.0.0.1:0")?;
+    let words = serve_words(alloc, "line", 3, there.as_str(), "127.0.0.1:0")?;
     let status = {
         let mut started = start(&rt, Ok(words), &mut notes);
-        run_on(&rt, rt.alloc(), &mut started, &mut notes).status
+        run_on(&rt, alloc, &mut started, &mut notes).status
     };
-    assert_eq!(rt; status, Status::Done);
-    assert!(rt; noted(&notes, "legal 3\n"));
-    assert!(rt; had(&rt, "judged.order", b"0\n1\np\n") && had(&rt, "judged.player", &player));
-    assert!(rt; had(&rt, "judged.0", &first) && had(&rt, "judged.1", &second));
+    assert!(rt;
+        status == Status::Done
+            && noted(&notes, SILENT)
+            && had(&rt, "line.said", &[0; 320])
+            && had(&rt, "line.heard", &[0; 960])
+            && had(
+                &rt,
+                "line.player",
+                b"GSMGPJ01\x01\x06\x00\x03\x10\x10\x10\xFF"
+            )
+            && had(&rt, "line.0", b"GSMGFJ01\x01\x06\x00\x03\x00\xFF")
+            && hears(&socket, &packet)
+    );
     Ok(())
 }
 
-#[test]
-fn words_that_are_no_line_are_refused(rt: HostRuntime) -> Result<(), Fail> {
-    let none = words_of(rt.alloc(), "simulat a b")?;
-    let mut notes = no_notes(rt.alloc())?;
-    let status = {
-        let mut started = start(&rt, Ok(none), &mut notes);
-        run_on(&rt, rt.alloc(), &mut started, &mut notes).status
-    };
-    assert_eq!(rt; status, Status::Usage);
-    assert!(rt; noted(&notes, "usage\n"));
+// A line, and how it ends. An empty one stands for words that found no memory.
+struct Run {
+    line: &'static str,
+    status: Status,
+    notes: &'static str,
+}
+
+const PLAYED: &str = "ticks 1 frames 1 erasures 0 idle 1
+all datagrams 1 accepted 1 duplicate 0 late 0 beyond 0 refused 0 stranger 0 rtcp 0 empty 0
+";
+
+const RUNS: [Run; 10] = [
+    Run {
+        line: "",
+        status: Status::OutOfMemory,
+        notes: "",
+    },
+    Run {
+        line: "simulat a b",
+        status: Status::Usage,
+        notes: "usage\n",
+    },
+    Run {
+        line: "decode no-such-file unread.speech",
+        status: Status::ReadFault,
+        notes: "",
+    },
+    Run {
+        line: "encode unbound.said coded.frames",
+        status: Status::Done,
+        notes: "frames 1\n",
+    },
+    Run {
+        line: "decode coded.frames zeros.speech",
+        status: Status::Done,
+        notes: "frames 1\n",
+    },
+    Run {
+        line: "decode silent.frames silent.speech",
+        status: Status::Done,
+        notes: "frames 1\n",
+    },
+    Run {
+        line: "render lost.player lost.speech",
+        status: Status::Done,
+        notes: "ticks 1 frames 0 erasures 1 idle 1\n",
+    },
+    Run {
+        line: "simulate --pcm sent.script sent.speech",
+        status: Status::Done,
+        notes: PLAYED,
+    },
+    Run {
+        line: "verify judged.order judged.player judged.0 judged.1",
+        status: Status::Done,
+        notes: "legal 3\n",
+    },
+    Run {
+        line: "serve --ticks 3 --reply 127.0.0.1:9 --speaker unbound.heard --microphone unbound.said --journals unbound astray",
+        status: Status::LinkFault,
+        notes: SILENT,
+    },
+];
+
+// The files that these lines read, by the words of their octets.
+const INPUTS: [(&str, &str); 6] = [
+    ("silent.frames", "silence"),
+    ("lost.player", "journal 01060003 10 12 FF"),
+    (
+        "sent.script",
+        "script 01060000 04 0300 00000000 002D 80030001 000003E8 12345678 zeros 04 FF",
+    ),
+    ("judged.player", "journal 02060003 13 zeros FF"),
+    ("judged.0", "filer 02060003 00 22 0000000100000000 zeros FF"),
+    (
+        "judged.1",
+        "filer 02060003 01 23 0000000100000000 silence FF",
+    ),
+];
+
+// Makes the files that these lines read.
+fn write_inputs<R: Files + AllocGlobal>(rt: &R) -> Result<(), Fail> {
+    for (path, text) in INPUTS {
+        let octets = octets_of(rt.alloc(), text)?;
+        fs::write(rt, path, octets.as_slice())?;
+    }
+    fs::write(rt, "unbound.said", [0u8; 320].as_slice())?;
     Ok(())
 }
 
-#[test]
-fn a_file_that_is_not_there_is_a_fault_of_reading(rt: HostRuntime) -> Result<(), Fail> {
-    let astray = words_of(rt.alloc(), "decode no-such-file unread.speech")?;
-    let mut notes = no_notes(rt.alloc())?;
-    let status = {
-        let mut started = start(&rt, Ok(astray), &mut notes);
-        run_on(&rt, rt.alloc(), &mut started, &mut notes).status
+// Whether a file of speech is 160 zeros and then what another file has. Both are removed.
+fn follows_silence<R: Files + AllocGlobal>(rt: &R, path: &str, then: &str) -> bool {
+    let (Ok(whole), Ok(tail)) = (fs::read(rt, path), fs::read(rt, then)) else {
+        return false;
     };
-    assert_eq!(rt; status, Status::ReadFault);
-    assert!(rt; noted(&notes, "") && had(&rt, "unread.speech", b""));
+    whole.len() == 640
+        && tail.len() == 320
+        && whole.starts_with([0u8; 320].as_slice())
+        && whole.ends_with(tail.as_slice())
+        && remove_all(rt, &[path, then])
+}
+
+// The words of such a line.
+fn words_for(alloc: Global, run: &Run) -> Result<Vec<String>, AllocError> {
+    if run.line.is_empty() {
+        return Err(AllocError);
+    }
+    words_of(alloc, run.line)
+}
+
+#[test]
+fn each_line_ends_with_its_status_and_notes(rt: HostRuntime) -> Result<(), Fail> {
+    let alloc = rt.alloc();
+    write_inputs(&rt)?;
+    for run in &RUNS {
+        let mut notes = no_notes(alloc)?;
+        let status = {
+            let mut started = start(&rt, words_for(alloc, run), &mut notes);
+            run_on(&rt, alloc, &mut started, &mut notes).status
+        };
+        assert!(rt; status == run.status && noted(&notes, run.notes));
+    }
+    let frame = octets_of(alloc, "zeros")?;
+    assert!(rt;
+        had(&rt, "unread.speech", b"")
+            && had(&rt, "coded.frames", &frame)
+            && follows_silence(&rt, "lost.speech", "silent.speech")
+            && follows_silence(&rt, "sent.speech", "zeros.speech")
+            && had(&rt, "judged.order", b"0\n1\np\n")
+            && had(&rt, "unbound.said", &[0; 320])
+            && had(&rt, "unbound.heard", &[0; 960])
+            && remove_all(&rt, &["silent.frames", "lost.player", "sent.script"])
+            && remove_all(&rt, &["judged.player", "judged.0", "judged.1"])
+            && remove_all(&rt, &["unbound.player", "unbound.0"])
+    );
     Ok(())
 }
 

@@ -1,5 +1,3 @@
-ghost use Rattle.std.specs.Prelude.{◌≤◌};
-
 use crate::offline::run_offline;
 use crate::places::addresses;
 use gate_io::{MemorySink, MemorySource};
@@ -75,41 +73,28 @@ pub fn words_of(alloc: Global, line: &str) -> Result<Vec<String>, AllocError> {
     Ok(words)
 }
 
-// How a run ended, with what it gave.
-#[derive(Drop)]
-pub struct Ended {
-    pub status: Status,
-    pub output: MemorySink,
-    pub notes: MemorySink,
-}
-
-// Runs a line over these octets, which come in pieces of this length.
-pub fn run_over(alloc: Global, line: &str, octets: &[u8], piece: usize) -> Result<Ended, Fail>
-    requires { 1 ≤ piece }
-{
-    let mut inputs = Vec::new(alloc);
-    inputs.push(MemorySource::new(alloc, octets, piece, &[])?)?;
-    let mut output = MemorySink::new(alloc, 10000, &[])?;
-    let mut notes = MemorySink::new(alloc, 10000, &[])?;
+// Whether a line over one input is refused by its usage.
+fn is_refused(alloc: Global, line: &str) -> Result<bool, Fail> {
     let words = words_of(alloc, line)?;
+    let mut inputs = Vec::new(alloc);
+    inputs.push(MemorySource::new(alloc, b"", 1, &[])?)?;
+    let mut output = MemorySink::new(alloc, 100, &[])?;
+    let mut notes = MemorySink::new(alloc, 100, &[])?;
     let status = run_offline(alloc, &words, &mut inputs, &mut output, &mut notes);
-    Ok(Ended {
-        status,
-        output,
-        notes,
-    })
+    Ok(
+        status == Status::Usage
+            && *notes.octets() == *b"usage\n".as_slice()
+            && output.octets().is_empty(),
+    )
 }
 
 #[test]
 fn other_words_are_refused(rt: HostRuntime) -> Result<(), Fail> {
     let alloc = rt.alloc();
     for line in ["simulat a b", "simulate --seed 1 a b", "make 7 0 4 out", ""] {
-        let ended = run_over(alloc, line, &[], 1)?;
-        assert!(rt;
-            ended.status == Status::Usage && *ended.notes.octets() == *b"usage\n".as_slice()
-        );
         let words = words_of(alloc, line)?;
-        assert!(rt; matches!(addresses(alloc, &words), Err(Status::Usage)));
+        let no_places = matches!(addresses(alloc, &words), Err(Status::Usage));
+        assert!(rt; no_places && is_refused(alloc, line)?);
     }
     Ok(())
 }
@@ -117,10 +102,7 @@ fn other_words_are_refused(rt: HostRuntime) -> Result<(), Fail> {
 #[test]
 fn another_number_of_inputs_is_refused(rt: HostRuntime) -> Result<(), Fail> {
     for line in ["verify out player filer", "make 7 1000 4 out", SERVE] {
-        let ended = run_over(rt.alloc(), line, &[], 1)?;
-        assert!(rt;
-            ended.status == Status::Usage && *ended.notes.octets() == *b"usage\n".as_slice()
-        );
+        assert!(rt; is_refused(rt.alloc(), line)?);
     }
     Ok(())
 }
