@@ -113,16 +113,18 @@ mod tests {
         fs::write(&rt, "sink.octets", "what stood there before")?;
         let mut sink = OsSink::create(&rt, rt.alloc(), "sink.octets")?;
         is_send(&sink);
-        assert_eq!(rt; sink.give(b"gate"), Ok(()));
-        assert_eq!(rt; sink.give(b""), Ok(()));
-        assert_eq!(rt; sink.give(b"way"), Ok(()));
+        let mut none = OsSink::create(&rt, rt.alloc(), "no-such-folder/sink.octets")?;
+        let mut standard = OsSink::standard(&rt);
+        assert!(rt;
+            sink.give(b"gate") == Ok(())
+                && sink.give(b"") == Ok(())
+                && sink.give(b"way") == Ok(())
+                && none.give(b"lost") == Err(Failed)
+                && none.give(b"") == Err(Failed)
+                && standard.give(b"written\n") == Ok(())
+        );
         assert_eq!(rt; fs::read_to_string(&rt, "sink.octets")?.as_str(), "gateway");
         fs::remove_file(&rt, "sink.octets")?;
-        let mut none = OsSink::create(&rt, rt.alloc(), "no-such-folder/sink.octets")?;
-        assert_eq!(rt; none.give(b"lost"), Err(Failed));
-        assert_eq!(rt; none.give(b""), Err(Failed));
-        let mut standard = OsSink::standard(&rt);
-        assert_eq!(rt; standard.give(b"written\n"), Ok(()));
         Ok(())
     }
 }

@@ -297,32 +297,56 @@ mod tests {
         link.receive(&mut piece) == Ok(Received::Idle)
     }
 
+    fn is_over<R: Clock>(link: &mut UdpLink<'_, R>) -> bool {
+        let mut piece = [0; 2048];
+        link.receive(&mut piece) == Ok(Received::Ended)
+    }
+
     fn has_failed<R: Clock>(link: &mut UdpLink<'_, R>) -> bool {
         let mut piece = [0; 2048];
         link.receive(&mut piece) == Err(Failed) && link.send(b"x") == Err(Failed)
     }
 
+    // A link, and one that sends to it.
+    fn pair<'a, R: Net + Clock + Wait + Sync + AllocGlobal>(
+        rt: &'a R,
+    ) -> Result<(UdpLink<'a, R>, UdpLink<'a, R>), Fail> {
+        let (near, at_near) = free(rt, "", 1000)?;
+        let (far, _) = free(rt, at_near.as_str(), 1000)?;
+        Ok((near, far))
+    }
+
     #[test]
     fn takes_and_sends_datagrams(rt: HostRuntime) -> Result<(), Fail> {
-        let (mut near, at_near) = free(&rt, "", 1000)?;
-        let (mut far, _) = free(&rt, at_near.as_str(), 1000)?;
+        let (mut near, mut far) = pair(&rt)?;
         is_send(&near);
-        assert!(rt; !sends(&mut near, b"nobody") && is_idle(&mut near));
-        assert!(rt; sends(&mut far, b"hello"));
-        assert!(rt; hears(&mut near, b"hello"));
-        assert!(rt; sends(&mut near, b"back") && hears(&mut far, b"back"));
-        assert!(rt; sends(&mut far, &[7; 2049]) && hears(&mut near, &[7; 2048]));
+        assert!(rt;
+            !sends(&mut near, b"nobody")
+                && is_idle(&mut near)
+                && sends(&mut far, b"hello")
+                && hears(&mut near, b"hello")
+                && sends(&mut near, b"back")
+                && hears(&mut far, b"back")
+                && sends(&mut far, &[7; 2049])
+                && hears(&mut near, &[7; 2048])
+        );
         Ok(())
     }
 
     #[test]
     fn takes_a_burst_whole(rt: HostRuntime) -> Result<(), Fail> {
-        let (mut near, at_near) = free(&rt, "", 1000)?;
-        let (mut far, _) = free(&rt, at_near.as_str(), 1000)?;
-        assert!(rt; is_idle(&mut near) && is_idle(&mut near));
-        assert!(rt; sends(&mut far, b"a") && sends(&mut far, b"bc") && sends(&mut far, b"def"));
-        assert!(rt; hears(&mut near, b"a") && hears(&mut near, b"bc") && hears(&mut near, b"def"));
-        assert!(rt; is_idle(&mut near));
+        let (mut near, mut far) = pair(&rt)?;
+        assert!(rt;
+            is_idle(&mut near)
+                && is_idle(&mut near)
+                && sends(&mut far, b"a")
+                && sends(&mut far, b"bc")
+                && sends(&mut far, b"def")
+                && hears(&mut near, b"a")
+                && hears(&mut near, b"bc")
+                && hears(&mut near, b"def")
+                && is_idle(&mut near)
+        );
         Ok(())
     }
 
@@ -331,9 +355,12 @@ mod tests {
         let (mut near, _) = free(&rt, "", 1000)?;
         let (mut far, at_far) = free(&rt, "", 1000)?;
         let mut back = near.answering(rt.alloc(), at_far.as_str(), 1000)?;
-        assert!(rt; sends(&mut back, b"speech") && hears(&mut far, b"speech"));
-        assert!(rt; sends(&mut far, b"to where it came from"));
-        assert!(rt; hears(&mut near, b"to where it came from"));
+        assert!(rt;
+            sends(&mut back, b"speech")
+                && hears(&mut far, b"speech")
+                && sends(&mut far, b"to where it came from")
+                && hears(&mut near, b"to where it came from")
+        );
         Ok(())
     }
 
@@ -345,18 +372,24 @@ mod tests {
         far: &mut UdpLink<'_, R>,
     ) -> Result<bool, Fail> {
         let (mut other, _) = free(rt, here, 1000)?;
-        let came = sends(&mut other, b"another") && hears(link, b"another");
-        Ok(came && sends(link, b"speech") && hears(far, b"speech"))
+        Ok(
+            sends(&mut other, b"another")
+                && hears(link, b"another")
+                && sends(link, b"speech")
+                && hears(far, b"speech"),
+        )
     }
 
     #[test]
     fn a_given_address_stays(rt: HostRuntime) -> Result<(), Fail> {
         let (mut far, at_far) = free(&rt, "", 1000)?;
         let (mut fixed, at_fixed) = free(&rt, at_far.as_str(), 1000)?;
-        assert!(rt; stays(&rt, &mut fixed, at_fixed.as_str(), &mut far)?);
         let (near, at_near) = free(&rt, "", 1000)?;
         let mut back = near.answering(rt.alloc(), at_far.as_str(), 1000)?;
-        assert!(rt; stays(&rt, &mut back, at_near.as_str(), &mut far)?);
+        assert!(rt;
+            stays(&rt, &mut fixed, at_fixed.as_str(), &mut far)?
+                && stays(&rt, &mut back, at_near.as_str(), &mut far)?
+        );
         Ok(())
     }
 
@@ -365,9 +398,10 @@ mod tests {
         let (mut far, at_far) = free(&rt, "", 1000)?;
         let shut = UdpLink::bind(&rt, rt.alloc(), "192.0.2.1:9", "", 1000)?;
         let mut alone = shut.answering(rt.alloc(), at_far.as_str(), 1000)?;
-        assert!(rt; sends(&mut alone, b"alone") && hears(&mut far, b"alone"));
         let mut astray = far.answering(rt.alloc(), "no address", 1000)?;
-        assert!(rt; has_failed(&mut astray));
+        assert!(rt;
+            sends(&mut alone, b"alone") && hears(&mut far, b"alone") && has_failed(&mut astray)
+        );
         Ok(())
     }
 
@@ -400,9 +434,10 @@ mod tests {
     fn ends_a_second_after_its_ticks(rt: HostRuntime) -> Result<(), Fail> {
         let begun = Instant::now(&rt)?;
         let (mut link, _) = free(&rt, "", 5)?;
-        assert!(rt; ends(&mut link) && begun.elapsed(&rt)? >= Duration::from_millis(1100));
-        let mut piece = [0; 2048];
-        assert_eq!(rt; link.receive(&mut piece), Ok(Received::Ended));
+        let has_ended = ends(&mut link);
+        assert!(rt;
+            has_ended && is_over(&mut link) && begun.elapsed(&rt)? >= Duration::from_millis(1100)
+        );
         Ok(())
     }
 
@@ -432,12 +467,11 @@ mod tests {
         let (mut link, _) = by_hand(&rt, &hand)?;
         hand.pass(Duration::from_secs(60));
         link.begin(Reading::now(&hand));
-        assert!(rt; is_idle(&mut link));
+        let mut lives = is_idle(&mut link);
         hand.pass(Duration::from_millis(1099));
-        assert!(rt; is_idle(&mut link));
+        lives &= is_idle(&mut link);
         hand.pass(Duration::from_millis(1));
-        let mut piece = [0; 2048];
-        assert_eq!(rt; link.receive(&mut piece), Ok(Received::Ended));
+        assert!(rt; lives && is_over(&mut link));
         Ok(())
     }
 
@@ -447,11 +481,10 @@ mod tests {
         let (mut near, at_near) = by_hand(&rt, &hand)?;
         let (mut far, _) = free(&rt, at_near.as_str(), 1000)?;
         hand.pass(Duration::from_millis(30));
-        assert!(rt; sends(&mut far, b"first"));
-        assert_eq!(rt; heard(&mut near, b"first"), Some(240));
+        let first = sends(&mut far, b"first") && heard(&mut near, b"first") == Some(240);
         hand.pass(Duration::from_millis(20));
-        assert!(rt; sends(&mut far, b"second"));
-        assert_eq!(rt; heard(&mut near, b"second"), Some(400));
+        let second = sends(&mut far, b"second") && heard(&mut near, b"second") == Some(400);
+        assert!(rt; first && second);
         Ok(())
     }
 
@@ -469,9 +502,8 @@ mod tests {
     fn what_cannot_be_bound_fails_at_each_call(rt: HostRuntime) -> Result<(), Fail> {
         let (_link, here) = free(&rt, "", 5)?;
         let mut taken = UdpLink::bind(&rt, rt.alloc(), here.as_str(), "", 1)?;
-        assert!(rt; has_failed(&mut taken) && has_failed(&mut taken));
         let mut astray = UdpLink::bind(&rt, rt.alloc(), "127.0.0.1:0", "no address", 1)?;
-        assert!(rt; has_failed(&mut astray));
+        assert!(rt; has_failed(&mut taken) && has_failed(&mut taken) && has_failed(&mut astray));
         Ok(())
     }
 }
