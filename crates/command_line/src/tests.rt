@@ -2,11 +2,15 @@ use crate::{Command, Line, Refusal, ServeOptions, read_line};
 use std::alloc::{AllocError, Global};
 use std::test::Fail;
 
-// The words of a text, where '' is the empty word.
+// The words of a text, where '' is the empty word and SEED the digits of a seed.
 fn words(alloc: Global, line: &str) -> Result<Vec<String>, AllocError> {
     let mut words = Vec::new(alloc);
     for word in line.split_whitespace() {
-        let word = if word == "''" { "" } else { word };
+        let word = match word {
+            "''" => "",
+            "SEED" => SEED,
+            word => word,
+        };
         words.push(String::from_str(alloc, word)?)?;
     }
     Ok(words)
@@ -67,37 +71,23 @@ fn is_command(
 
 #[test]
 fn a_line_over_files_says_its_command(rt: HostRuntime) -> Result<(), Fail> {
-    let alloc = rt.alloc();
     let pcm = |seed| Command::Simulate { voice: Some(seed) };
     let journal = Command::Simulate { voice: None };
-    assert!(rt; is_command(alloc, "simulate in out", "in ", journal)?);
-    assert!(rt; is_command(alloc, "simulate --pcm in out", "in ", pcm([0; 32]))?);
-    assert!(rt; is_command(alloc, "decode in out", "in ", Command::Decode)?);
-    assert!(rt; is_command(alloc, "encode in out", "in ", Command::Encode)?);
-    assert!(rt;
-        is_command(
-            alloc,
-            "render in out",
-            "in ",
-            Command::Render { seed: [0; 32] }
-        )?
-    );
-    assert!(rt; is_command(alloc, "verify out p f0 f1", "p f0 f1 ", Command::Verify)?);
-    let mut line = format!(in alloc; "simulate --seed {SEED} in out")?;
-    assert!(rt; is_command(alloc, line.as_str(), "in ", journal)?);
-    line = format!(in alloc; "simulate --seed {SEED} --pcm in out")?;
-    assert!(rt; is_command(alloc, line.as_str(), "in ", pcm(OCTETS))?);
-    line = format!(in alloc; "simulate --pcm --seed {SEED} in out")?;
-    assert!(rt; is_command(alloc, line.as_str(), "in ", pcm(OCTETS))?);
-    line = format!(in alloc; "render --seed {SEED} in out")?;
-    assert!(rt;
-        is_command(
-            alloc,
-            line.as_str(),
-            "in ",
-            Command::Render { seed: OCTETS }
-        )?
-    );
+    let render = |seed| Command::Render { seed };
+    for (line, inputs, wanted) in [
+        ("simulate in out", "in ", journal),
+        ("simulate --pcm in out", "in ", pcm([0; 32])),
+        ("decode in out", "in ", Command::Decode),
+        ("encode in out", "in ", Command::Encode),
+        ("render in out", "in ", render([0; 32])),
+        ("verify out p f0 f1", "p f0 f1 ", Command::Verify),
+        ("simulate --seed SEED in out", "in ", journal),
+        ("simulate --seed SEED --pcm in out", "in ", pcm(OCTETS)),
+        ("simulate --pcm --seed SEED in out", "in ", pcm(OCTETS)),
+        ("render --seed SEED in out", "in ", render(OCTETS)),
+    ] {
+        assert!(rt; is_command(rt.alloc(), line, inputs, wanted)?);
+    }
     Ok(())
 }
 
@@ -114,15 +104,23 @@ fn make_says_its_numbers(rt: HostRuntime) -> Result<(), Fail> {
         count: 1_000_000,
         filers: 64,
     };
-    assert!(rt; is_command(alloc, "make 0 01 1 out", "", least)?);
-    assert!(rt; is_command(alloc, "make 18446744073709551615 1000000 64 out", "", most)?);
-    assert!(rt; is_refused(alloc, "make 18446744073709551616 1 1 out")?);
-    assert!(rt; is_refused(alloc, "make 0 0 1 out")?);
-    assert!(rt; is_refused(alloc, "make 0 1000001 1 out")?);
-    assert!(rt; is_refused(alloc, "make 0 1 0 out")?);
-    assert!(rt; is_refused(alloc, "make 0 1 65 out")?);
-    assert!(rt; is_refused(alloc, "make +0 1 1 out")?);
-    assert!(rt; is_refused(alloc, "make '' 1 1 out")?);
+    for (line, wanted) in [
+        ("make 0 01 1 out", least),
+        ("make 18446744073709551615 1000000 64 out", most),
+    ] {
+        assert!(rt; is_command(alloc, line, "", wanted)?);
+    }
+    for line in [
+        "make 18446744073709551616 1 1 out",
+        "make 0 0 1 out",
+        "make 0 1000001 1 out",
+        "make 0 1 0 out",
+        "make 0 1 65 out",
+        "make +0 1 1 out",
+        "make '' 1 1 out",
+    ] {
+        assert!(rt; is_refused(alloc, line)?);
+    }
     Ok(())
 }
 
@@ -214,24 +212,35 @@ const SAID: ServeOptions = ServeOptions {
 
 #[test]
 fn a_line_of_serve_says_its_options(rt: HostRuntime) -> Result<(), Fail> {
-    let alloc = rt.alloc();
-    assert!(rt; are_options(alloc, "", DEFAULTS)?);
     let small = ServeOptions {
         ring: 1,
         delay: 1,
         ..DEFAULTS
     };
-    assert!(rt; are_options(alloc, "--ring 1", small)?);
-    let line = format!(in alloc;
-        "--stamp 4294967295 --sequence 65535 --ssrc 4294967295 --report 65535 --ticks 16000000 --seed {SEED} --delay 1023 --ring 10"
-    )?;
-    assert!(rt; are_options(alloc, line.as_str(), SAID)?);
+    let least = ServeOptions {
+        ring: 0,
+        delay: 0,
+        ticks: 1,
+        report: 1,
+        ssrc: 0,
+        ..DEFAULTS
+    };
+    for (before, wanted) in [
+        ("", DEFAULTS),
+        ("--ring 1", small),
+        ("--ring 0 --delay 0 --ticks 1 --report 1 --ssrc 0", least),
+        (
+            "--stamp 4294967295 --sequence 65535 --ssrc 4294967295 --report 65535 --ticks 16000000 --seed SEED --delay 1023 --ring 10",
+            SAID,
+        ),
+    ] {
+        assert!(rt; are_options(rt.alloc(), before, wanted)?);
+    }
     Ok(())
 }
 
 #[test]
 fn a_value_out_of_its_range_is_no_line(rt: HostRuntime) -> Result<(), Fail> {
-    let alloc = rt.alloc();
     for before in [
         "--ring 11",
         "--delay 64",
@@ -248,23 +257,8 @@ fn a_value_out_of_its_range_is_no_line(rt: HostRuntime) -> Result<(), Fail> {
         "--ring +6",
         "--ring ''",
     ] {
-        assert!(rt; is_refused_before(alloc, before)?);
+        assert!(rt; is_refused_before(rt.alloc(), before)?);
     }
-    let least = ServeOptions {
-        ring: 0,
-        delay: 0,
-        ticks: 1,
-        report: 1,
-        ssrc: 0,
-        ..DEFAULTS
-    };
-    assert!(rt;
-        are_options(
-            alloc,
-            "--ring 0 --delay 0 --ticks 1 --report 1 --ssrc 0",
-            least
-        )?
-    );
     Ok(())
 }
 
