@@ -1,5 +1,6 @@
 -- A packet that was written, read again.
-use Rattle.std.proofs.Common.{◌≡◌, ℕ, zero, suc, ◌+◌, ◌-◌, ◌*◌, ◌/◌, ◌%◌, ◌<◌, ◌≤◌, Bool, true, false, cond, eqb, ltb, leb, List, ◌++◌, length, drop, slice_index, Some, None, option_map, not, if◌then◌else◌, refl, ap, ◌∙◌, arith}
+use Rattle.std.proofs.Common.{◌≡◌, ℕ, zero, suc, ◌+◌, ◌-◌, ◌*◌, ◌/◌, ◌%◌, ◌<◌, ◌≤◌, Bool, true, false, cond, eqb, ltb, leb, List, ◌++◌, length, drop, slice_index, Some, None, option_map, Option, not, if◌then◌else◌, refl, ap, ◌∙◌, arith}
+use Rattle.std.specs.Option.{option_or}
 use Rattle.std.proofs.lemmas.Bool.Decides.{nat_tests}
 use Rattle.std.proofs.lemmas.List.{take_all, take_at}
 use Rattle.std.proofs.lemmas.Slice.{drop-append-drop}
@@ -7,8 +8,9 @@ use borrow.Rule.Slice.PartMut.{put_mid, Post-is}
 use Rattle.byteorder.specs.Endian.{big_bytes}
 use Rattle.byteorder.specs.Numbers.{big_number-reads_back}
 use Rattle.rtp_codec.specs.declared.head.RtpHead.{RtpHead}
+use Rattle.rtp_codec.specs.declared.fault.RtpFault.{RtpFault}
 use Rattle.rtp_codec.specs.declared.fault.RtpFault.TheVariants.{Signature}
-use Rattle.rtp_codec.specs.Grammar.{version, sources_end, lacks_extension, has_bad_padding, first_unsigned, payload, payload_type, rtp_fault}
+use Rattle.rtp_codec.specs.Grammar.{version, sources_end, lacks_extension, has_bad_padding, first_unsigned, payload, payload_type, open_fault, payload_fault}
 use Rattle.rtp_codec.specs.Packets.{IsPayload, IsFullRate, IsReadBack, head_octets, head_of, Packet}
 
 skip : {A : Type 0} (b : Bool) (x y : A) → b ≡ false → cond b x y ≡ y
@@ -30,22 +32,28 @@ lt_false a b h = grind (arith, nat_tests)
 eq_true : (a b : ℕ) → a ≡ b → eqb a b ≡ true
 eq_true a b e = grind (arith, nat_tests)
 
--- none of the cases holds
-chain : (d p : List ℕ) → length d < 2048 → 12 ≤ length d → version d ≡ 2 → sources_end d ≤ length d → lacks_extension d ≡ false → has_bad_padding d ≡ false → payload_type d ≡ 3
-    → payload d ≡ p → IsPayload p → rtp_fault d ≡ None
-chain d p small some two sources extension padding full whole is =
-    let size : length (payload d) ≡ length p = ap length whole in
-    let none : first_unsigned 0 (length p / 33) p ≡ None = all_none 0 (length p / 33) p (λ k low high. is.signed k (omega arith)) in
+-- none of the header's cases holds
+opens : (d : List ℕ) → length d < 2048 → 12 ≤ length d → version d ≡ 2 → sources_end d ≤ length d → lacks_extension d ≡ false → has_bad_padding d ≡ false → open_fault d ≡ None
+opens d small some two sources extension padding =
     skip _ _ _ (le_false 2048 (length d) small)
     ∙ (skip _ _ _ (lt_false (length d) 12 some)
     ∙ (skip _ _ _ (ap not (eq_true (version d) 2 two))
     ∙ (skip _ _ _ (lt_false (length d) (sources_end d) sources)
     ∙ (skip _ _ _ extension
-    ∙ (skip _ _ _ padding
-    ∙ (skip _ _ _ (ap not (eq_true (payload_type d) 3 full))
+    ∙ skip _ _ _ padding))))
+
+-- none of the payload's cases holds
+carries : (d p : List ℕ) → payload_type d ≡ 3 → payload d ≡ p → IsPayload p → payload_fault d ≡ None
+carries d p full whole is =
+    let size : length (payload d) ≡ length p = ap length whole in
+    let none : first_unsigned 0 (length p / 33) p ≡ None = all_none 0 (length p / 33) p (λ k low high. is.signed k (omega arith)) in
+    skip _ _ _ (ap not (eq_true (payload_type d) 3 full))
     ∙ (skip _ _ _ (ap not (eq_true (length (payload d) % 33) 0 (ap (λ (n : ℕ). n % 33) size ∙ is.whole)))
     ∙ (skip _ _ _ (lt_false 330 (length (payload d)) (rw size is.few))
-    ∙ (ap (λ (q : List ℕ). option_map Signature (first_unsigned 0 (length q / 33) q)) whole ∙ ap (option_map Signature) none)))))))))
+    ∙ (ap (λ (q : List ℕ). option_map Signature (first_unsigned 0 (length q / 33) q)) whole ∙ ap (option_map Signature) none)))
+
+neither : (a b : Option RtpFault) → a ≡ None → b ≡ None → option_or a b ≡ None
+neither a b first second = ap (λ (x : Option RtpFault). option_or x b) first ∙ second
 
 payload_is : (h : RtpHead) (octets : List ℕ) → payload (head_octets h ++ octets) ≡ octets
 payload_is h octets = take_all (length (head_octets h ++ octets) - 0 - 12) octets (omega arith)
@@ -80,7 +88,9 @@ same_packet h h2 octets octets2 a b = cc
 
 pub written_is_read : IsReadBack
 written_is_read h octets full is = (
-  chain (head_octets h ++ octets) octets (omega (arith, is.few)) (omega arith) refl (omega arith) refl refl (type_is h.marker h.payload_type (omega arith) ∙ full.payload_type) (payload_is h octets) is,
+  neither _ _
+      (opens (head_octets h ++ octets) (omega (arith, is.few)) (omega arith) refl (omega arith) refl refl)
+      (carries (head_octets h ++ octets) octets (type_is h.marker h.payload_type (omega arith) ∙ full.payload_type) (payload_is h octets) is),
   same_packet _ _ _ _ (head_is h octets full) (payload_is h octets),
 )
 

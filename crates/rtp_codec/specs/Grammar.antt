@@ -1,5 +1,6 @@
 -- The grammar of a packet, as total functions of a datagram's octets by place (RFC 3550 section 5.1).
 use Rattle.std.specs.Prelude.{ℕ, zero, suc, ◌+◌, ◌-◌, ◌*◌, ◌/◌, ◌%◌, ◌==◌, ◌&&◌, ◌||◌, not, Bool, List, length, take, drop, slice_index, nat_lt, nat_le, Option, Some, None, option_map, if◌then◌else◌}
+use Rattle.std.specs.Option.{option_or}
 use Rattle.byteorder.specs.Endian.{big_number}
 use Rattle.rtp_codec.specs.declared.fault.RtpFault.{RtpFault}
 use Rattle.rtp_codec.specs.declared.fault.RtpFault.TheVariants.{Oversize, Short, Version, CsrcShort, ExtensionShort, Padding, OtherPayload, Length, TooMany, Signature}
@@ -51,16 +52,25 @@ abbrev pub first_unsigned : ℕ → ℕ → List ℕ → Option ℕ
 first_unsigned i zero octets = None
 first_unsigned i (suc n) octets = if slice_index octets (33 * i) / 16 == 13 then first_unsigned (suc i) n octets else Some i
 
--- the first case that holds, where one does
-abbrev pub rtp_fault : List ℕ → Option RtpFault
-rtp_fault d =
+-- the first case of the header and the padding that holds, where one does
+abbrev pub open_fault : List ℕ → Option RtpFault
+open_fault d =
     if nat_le 2048 (length d) then Some Oversize
     else if nat_lt (length d) 12 then Some Short
     else if not (version d == 2) then Some Version
     else if nat_lt (length d) (sources_end d) then Some CsrcShort
     else if lacks_extension d then Some ExtensionShort
     else if has_bad_padding d then Some Padding
-    else if not (payload_type d == 3) then Some (OtherPayload (payload_type d))
+    else None
+
+-- the first case of the payload that holds, where one does
+abbrev pub payload_fault : List ℕ → Option RtpFault
+payload_fault d =
+    if not (payload_type d == 3) then Some (OtherPayload (payload_type d))
     else if not (length (payload d) % 33 == 0) then Some Length
     else if nat_lt 330 (length (payload d)) then Some TooMany
     else option_map Signature (first_unsigned 0 (length (payload d) / 33) (payload d))
+
+-- the first case that holds, where one does: those of the payload come behind the others
+abbrev pub rtp_fault : List ℕ → Option RtpFault
+rtp_fault d = option_or (open_fault d) (payload_fault d)

@@ -4,6 +4,7 @@
 mod fault;
 mod head;
 mod laws;
+mod opened;
 mod read;
 mod view;
 mod write;
@@ -11,7 +12,8 @@ mod write;
 pub use fault::RtpFault;
 pub use head::RtpHead;
 pub use laws::read_back;
-pub use read::read_rtp;
+pub use opened::RtpOpen;
+pub use read::{read_head, read_rtp};
 pub use view::RtpView;
 pub use write::write_rtp;
 

@@ -1,10 +1,11 @@
 // Reading a packet.
 ghost use Rattle.std.specs.Prelude.{◌≡◌, ◌≤◌, ◌<◌, ◌+◌, ◌*◌, ◌/◌, length, false, true, Some, None, IfOk, OnErr, OnOk, MatchResult};
-ghost use Rattle.rtp_codec.specs.Grammar.{sources_end, header_end, lacks_extension, has_bad_padding, padding, first_unsigned, rtp_fault};
+ghost use Rattle.rtp_codec.specs.Grammar.{sources_end, header_end, lacks_extension, has_bad_padding, padding, first_unsigned, open_fault, rtp_fault};
 ghost use Rattle.rtp_codec.specs.Packets.{head_of, packet_of};
 
 use crate::fault::RtpFault;
 use crate::head::RtpHead;
+use crate::opened::RtpOpen;
 use crate::view::RtpView;
 use byteorder::{BigEndian, ByteOrder};
 
@@ -12,11 +13,11 @@ use byteorder::{BigEndian, ByteOrder};
 #[derive(Drop)]
 struct Misfit;
 
-/// Reads the packet of a datagram (RFC 3550 section 5.1) whose payload is GSM full rate (RFC 3551 section
-/// 4.5.8), or answers the first case of `RtpFault` that holds. The payload stays in the datagram.
-pub fn read_rtp(datagram: &[u8]) -> Result<RtpView<'_>, RtpFault>
-    ensures packet { IfOk result (λ v. v ≡ packet_of datagram.now) }
-    ensures fault { MatchResult result (λ v. rtp_fault datagram.now ≡ None) (λ f. rtp_fault datagram.now ≡ Some f) }
+/// Reads the packet of a datagram (RFC 3550 section 5.1), whatever its payload type is, or answers the first of
+/// the first six cases of `RtpFault` that holds. The payload stays in the datagram.
+pub fn read_head(datagram: &[u8]) -> Result<RtpOpen<'_>, RtpFault>
+    ensures packet { IfOk result (λ o. o ≡ packet_of datagram.now) }
+    ensures fault { MatchResult result (λ o. open_fault datagram.now ≡ None) (λ f. open_fault datagram.now ≡ Some f) }
 {
     if datagram.len() >= 2048 {
         return Err(RtpFault::Oversize);
@@ -36,11 +37,20 @@ pub fn read_rtp(datagram: &[u8]) -> Result<RtpView<'_>, RtpFault>
     let Ok(padded) = padding(datagram, body) else {
         return Err(RtpFault::Padding);
     };
-    let head = head_of(datagram);
+    let payload = &datagram[body..datagram.len() - padded];
+    Ok(RtpOpen::of(head_of(datagram), payload))
+}
+
+/// Reads the packet of a datagram (RFC 3550 section 5.1) whose payload is GSM full rate (RFC 3551 section
+/// 4.5.8), or answers the first case of `RtpFault` that holds. The payload stays in the datagram.
+pub fn read_rtp(datagram: &[u8]) -> Result<RtpView<'_>, RtpFault>
+    ensures packet { IfOk result (λ v. v ≡ packet_of datagram.now) }
+    ensures fault { MatchResult result (λ v. rtp_fault datagram.now ≡ None) (λ f. rtp_fault datagram.now ≡ Some f) }
+{
+    let (head, payload) = read_head(datagram)?.parts();
     if head.payload_type != 3 {
         return Err(RtpFault::OtherPayload(head.payload_type));
     }
-    let payload = &datagram[body..datagram.len() - padded];
     if payload.len() % 33 != 0 {
         return Err(RtpFault::Length);
     }

@@ -47,7 +47,34 @@ fn each_refusal_comes_in_its_order(rt: HostRuntime) {
             Some(fault),
             "at {fault:?} of {size} octets"
         );
+        assert_eq!(rt;
+            read_head(&octets[..size.min(2048)]).err(),
+            of_head(fault),
+            "the head at {fault:?} of {size} octets"
+        );
     }
+}
+
+// A fault of the payload is none of the head's.
+fn of_head(fault: RtpFault) -> Option<RtpFault> {
+    match fault {
+        RtpFault::OtherPayload(_) | RtpFault::Length | RtpFault::TooMany | RtpFault::Signature(_) =>
+            None,
+        other => Some(other),
+    }
+}
+
+#[test]
+fn a_packet_of_another_type_is_opened(rt: HostRuntime) -> Result<(), Fail> {
+    let mut octets = datagram(0xA0, 97, 12, 0);
+    octets[12] = 3;
+    octets[14] = 2;
+    let packet = &octets[..15];
+    let open = read_head(packet)?;
+    assert_eq!(rt; open.head().payload_type, 97);
+    assert_eq!(rt; *open.payload(), *[3].as_slice());
+    assert_eq!(rt; read_rtp(packet).err(), Some(RtpFault::OtherPayload(97)));
+    Ok(())
 }
 
 // Contributing sources, extensions and padding that fit are passed over.
