@@ -13,7 +13,7 @@ pub use fault::RtpFault;
 pub use head::RtpHead;
 pub use laws::read_back;
 pub use opened::RtpOpen;
-pub use read::{read_head, read_rtp};
+pub use read::{first_unsigned, read_head, read_rtp};
 pub use view::RtpView;
 pub use write::write_rtp;
 

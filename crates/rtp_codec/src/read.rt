@@ -43,6 +43,7 @@ pub fn read_head(datagram: &[u8]) -> Result<RtpOpen<'_>, RtpFault>
 
 /// Reads the packet of a datagram (RFC 3550 section 5.1) whose payload is GSM full rate (RFC 3551 section
 /// 4.5.8), or answers the first case of `RtpFault` that holds. The payload stays in the datagram.
+#[tactic(auto, using(crate::specs::Signed::payload_if))]
 pub fn read_rtp(datagram: &[u8]) -> Result<RtpView<'_>, RtpFault>
     ensures packet { IfOk result (λ v. v ≡ packet_of datagram.now) }
     ensures fault { MatchResult result (λ v. rtp_fault datagram.now ≡ None) (λ f. rtp_fault datagram.now ≡ Some f) }
@@ -121,8 +122,9 @@ fn padding(datagram: &[u8], body: usize) -> Result<usize, Misfit>
     Ok(count)
 }
 
-/// The first frame whose first nibble is not 0xD.
-fn first_unsigned(payload: &[u8]) -> Option<u8>
+/// The place of the first frame whose first nibble is not 0xD (RFC 3551 section 4.5.8.1), counted from 0. Octets
+/// behind the last whole frame are passed over.
+pub fn first_unsigned(payload: &[u8]) -> Option<u8>
     requires few { length payload.now ≤ 330 }
     ensures { result ≡ first_unsigned 0 (length payload.now / 33) payload.now }
 {
