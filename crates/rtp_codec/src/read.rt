@@ -43,7 +43,7 @@ pub fn read_head(datagram: &[u8]) -> Result<RtpOpen<'_>, RtpFault>
 
 /// Reads the packet of a datagram (RFC 3550 section 5.1) whose payload is GSM full rate (RFC 3551 section
 /// 4.5.8), or answers the first case of `RtpFault` that holds. The payload stays in the datagram.
-#[tactic(auto, using(crate::specs::Signed::payload_if))]
+#[tactic(auto, using(crate::specs::SignatureLaws::payload_if))]
 pub fn read_rtp(datagram: &[u8]) -> Result<RtpView<'_>, RtpFault>
     ensures packet { IfOk result (λ v. v ≡ packet_of datagram.now) }
     ensures fault { MatchResult result (λ v. rtp_fault datagram.now ≡ None) (λ f. rtp_fault datagram.now ≡ Some f) }
