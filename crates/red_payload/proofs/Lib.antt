@@ -1,0 +1,4 @@
+pub mod Walking
+pub mod Splitting
+pub mod Places
+pub mod Unsigned

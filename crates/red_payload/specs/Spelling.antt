@@ -1,0 +1,25 @@
+-- The octets that blocks are spelled by.
+use Rattle.std.specs.Prelude.{◌≡◌, ℕ, ◌+◌, ◌*◌, ◌<◌, List, [], ◌∷◌, ◌++◌, length, None}
+use Rattle.std.specs.List.{AllByRecursion}
+use Rattle.byteorder.specs.Endian.{big_bytes}
+use Rattle.red_payload.specs.Blocks.{Block, blocks_of, header_fault}
+
+abbrev pub older_text : Block → List ℕ
+older_text b = (128 + b.payload_type) ∷ big_bytes 3 (1024 * b.offset + length b.octets)
+
+-- the last block is the primary one
+abbrev pub heads_text : List Block → List ℕ
+heads_text [] = []
+heads_text (b ∷ []) = b.payload_type ∷ []
+heads_text (b ∷ c ∷ bs) = older_text b ++ heads_text (c ∷ bs)
+
+abbrev pub octets_text : List Block → List ℕ
+octets_text [] = []
+octets_text (b ∷ bs) = b.octets ++ octets_text bs
+
+abbrev pub spelled : List Block → List ℕ
+spelled bs = heads_text bs ++ octets_text bs
+
+-- no octet of a payload is lost or read twice
+abbrev pub AreSpelled : Type 0
+AreSpelled = (payload : List ℕ) → AllByRecursion (λ o. o < 256) payload → header_fault payload ≡ None → payload ≡ spelled (blocks_of payload)
