@@ -2,3 +2,5 @@ pub mod Walking
 pub mod Splitting
 pub mod Places
 pub mod Unsigned
+pub mod Frames
+pub mod Spelled

@@ -1,11 +1,10 @@
 -- What the headers say in all, told one after the other.
-use Rattle.std.proofs.Common.{◌≡◌, ℕ, ◌+◌, ◌-◌, ◌*◌, ◌<◌, ◌≤◌, ◌&&◌, Bool, true, false, cond, ltb, leb, List, [], ◌∷◌, length, take, drop, slice_index, Option, Some, None, option_map, refl, sym, ap, ◌∙◌, arith, length-drop}
+use Rattle.std.proofs.Common.{◌≡◌, ℕ, ◌+◌, ◌-◌, ◌*◌, ◌<◌, ◌≤◌, true, false, List, [], ◌∷◌, length, take, drop, slice_index, Option, Some, None, option_map, refl, sym, ap, ◌∙◌, arith, length-drop}
 use Rattle.std.proofs.lemmas.Bool.Decides.{nat_tests}
 use Rattle.std.proofs.lemmas.List.{take_all}
-use Rattle.red_payload.specs.declared.fault.RedFault.{RedFault}
 use Rattle.red_payload.specs.declared.fault.RedFault.TheVariants as fault
-use Rattle.red_payload.specs.Blocks.{Older, Heads, Block, blocks_behind, blocks_from, blocks_of, fault_of_heads, header_fault, headers, last_header, older_of, total, with_older}
-use Rattle.red_payload.specs.Walks.{AreLeft, IsSplit, blocks_left, blocks_with, is_older}
+use Rattle.red_payload.specs.Blocks.{Older, Heads, blocks_behind, blocks_from, blocks_of, fault_of_heads, header_fault, headers, older_of, total, with_older}
+use Rattle.red_payload.specs.Walks.{IsSplit, blocks_left, blocks_with, is_older}
 use Rattle.red_payload.proofs.Walking.{headers_on, left_behind, lt_false, lt_true, none_some, skip, some_is, take_first}
 
 -- with n older blocks before, of t octets: how many there are, how many octets they have, and what is behind

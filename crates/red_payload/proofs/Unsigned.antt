@@ -1,10 +1,10 @@
 -- The first frame with another signature, over two pieces of whole frames.
-use Rattle.std.proofs.Common.{◌≡◌, ℕ, zero, suc, ◌+◌, ◌-◌, ◌*◌, ◌/◌, ◌%◌, ◌==◌, ◌&&◌, ◌<◌, ◌≤◌, not, Bool, true, false, cond, eqb, List, [], ◌∷◌, ◌++◌, length, length-append, slice_index, Option, Some, None, option_map, refl, sym, ap, ◌∙◌, arith}
+use Rattle.std.proofs.Common.{◌≡◌, ℕ, zero, suc, ◌+◌, ◌*◌, ◌/◌, ◌%◌, ◌&&◌, ◌<◌, ◌≤◌, not, Bool, true, false, cond, eqb, List, ◌∷◌, ◌++◌, length, length-append, slice_index, Option, Some, None, option_map, refl, sym, ap, ◌∙◌, arith}
 use Rattle.std.specs.Option.{option_or}
 use Rattle.std.proofs.lemmas.Bool.{eqb-true}
 use Rattle.std.proofs.lemmas.List.{get_or_append_left, get_or-append-add}
 use Rattle.rtp_codec.specs.Grammar.{first_unsigned}
-use Rattle.red_payload.specs.Blocks.{Block, first_broken, is_speech, speech}
+use Rattle.red_payload.specs.Blocks.{Block, first_broken, speech}
 
 -- counted on from n
 abbrev pub after : ℕ → Option ℕ → Option ℕ
@@ -21,7 +21,7 @@ in_second (suc n) i m xs ys size =
     let octet : slice_index (xs ++ ys) (33 * (m + i)) ≡ slice_index ys (33 * i) = ap (slice_index (xs ++ ys)) place ∙ get_or-append-add xs ys (33 * i) 0 in
     let next : suc (m + i) ≡ m + suc i = omega arith in
     let rest : first_unsigned (suc (m + i)) n (xs ++ ys) ≡ after m (first_unsigned (suc i) n ys) =
-        ap (λ (k : ℕ). first_unsigned k n (xs ++ ys)) next ∙ in_second n (suc i) m xs ys size in
+    ap (λ (k : ℕ). first_unsigned k n (xs ++ ys)) next ∙ in_second n (suc i) m xs ys size in
     ap (λ (o : ℕ). cond (eqb (o / 16) 13) (first_unsigned (suc (m + i)) n (xs ++ ys)) (Some (m + i))) octet
     ∙ either (eqb (slice_index ys (33 * i) / 16) 13) (first_unsigned (suc (m + i)) n (xs ++ ys)) (first_unsigned (suc i) n ys) i rest
   where
@@ -108,6 +108,7 @@ found_below (suc n) i k octets e =
   where
     is : (i k : ℕ) → Some i ≡ Some k → i ≡ k
     is i k e = cc
+
     either : (b : Bool) (rest : Option ℕ) → (rest ≡ Some k → k < suc i + n) → cond b rest (Some i) ≡ Some k → k < i + suc n
     either true rest below e = omega (arith, below e)
     either false rest below e = omega (arith, is i k e)

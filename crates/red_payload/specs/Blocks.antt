@@ -1,5 +1,5 @@
 -- A redundant payload: the headers of its blocks, and behind them their octets in the same order (RFC 2198 section 3).
-use Rattle.std.specs.Prelude.{◌≡◌, ℕ, ◌+◌, ◌*◌, ◌/◌, ◌%◌, ◌==◌, ◌&&◌, ◌≤◌, not, Bool, List, [], ◌∷◌, ◌++◌, length, take, drop, slice_index, slice_get, nat_lt, Option, Some, None, option_map, if◌then◌else◌}
+use Rattle.std.specs.Prelude.{◌≡◌, ℕ, ◌+◌, ◌/◌, ◌%◌, ◌==◌, ◌&&◌, ◌≤◌, not, Bool, List, [], ◌∷◌, ◌++◌, length, take, drop, slice_index, slice_get, nat_lt, Option, Some, None, option_map, if◌then◌else◌}
 use Rattle.std.specs.Option.{option_or}
 use Rattle.byteorder.specs.Endian.{big_number}
 use Rattle.rtp_codec.specs.Grammar.{first_unsigned}

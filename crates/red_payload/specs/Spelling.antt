@@ -20,6 +20,9 @@ octets_text (b ∷ bs) = b.octets ++ octets_text bs
 abbrev pub spelled : List Block → List ℕ
 spelled bs = heads_text bs ++ octets_text bs
 
+abbrev pub AreOctets : List ℕ → Type 0
+AreOctets xs = AllByRecursion (λ o. o < 256) xs
+
 -- no octet of a payload is lost or read twice
 abbrev pub AreSpelled : Type 0
-AreSpelled = (payload : List ℕ) → AllByRecursion (λ o. o < 256) payload → header_fault payload ≡ None → payload ≡ spelled (blocks_of payload)
+AreSpelled = (payload : List ℕ) → AreOctets payload → header_fault payload ≡ None → payload ≡ spelled (blocks_of payload)
