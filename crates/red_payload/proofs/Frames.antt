@@ -1,8 +1,7 @@
 -- The frames of blocks that are not refused.
 use Rattle.std.proofs.Common.{◌≡◌, ℕ, zero, suc, ◌+◌, ◌/◌, ◌%◌, ◌&&◌, ◌≤◌, not, Bool, true, false, cond, eqb, ltb, List, [], ◌∷◌, ◌++◌, length, length-append, slice_get, Option, Some, None, option_map, refl, sym, ap, ◌∙◌, arith}
+use Rattle.std.proofs.lemmas.Bool.{eqb-true, ltb-false}
 use Rattle.std.specs.Option.{option_or}
-use Rattle.std.proofs.lemmas.Bool.{eqb-true}
-use Rattle.std.proofs.lemmas.Bool.Decides.{nat_tests}
 use Rattle.rtp_codec.specs.Packets.{IsPayload}
 use Rattle.rtp_codec.specs.SignatureLaws.{payload_if}
 use Rattle.red_payload.specs.declared.fault.RedFault.{RedFault}
@@ -77,15 +76,12 @@ then : (b : Bool) (rest : Option RedFault) → cond b (Some fault.TooMany) rest 
 then true rest e = cc
 then false rest e = e
 
-few_if : (n : ℕ) → ltb 330 n ≡ false → n ≤ 330
-few_if n e = grind (arith, nat_tests)
-
 pub have_frames : (bs : List Block) → blocks_fault bs ≡ None → HaveFrames bs
 have_frames bs none =
     let broken : option_map fault.Length (first_broken 0 bs) ≡ None = first_none _ (frames_fault (speech bs)) none in
     let frames : frames_fault (speech bs) ≡ None = second_none (option_map fault.Length (first_broken 0 bs)) _ none in
     let rest : Option RedFault = option_map fault.Signature (unsigned_in (speech bs)) in
-    let few : length (speech bs) ≤ 330 = few_if _ (not_many (ltb 330 (length (speech bs))) rest frames) in
+    let few : length (speech bs) ≤ 330 = ltb-false 330 _ (not_many (ltb 330 (length (speech bs))) rest frames) in
     record {
       each = each_fine 0 bs (record {
         whole = map_none fault.Length (first_broken 0 bs) broken;

@@ -4,3 +4,4 @@ pub mod Places
 pub mod Unsigned
 pub mod Frames
 pub mod Spelled
+pub mod ReadBack

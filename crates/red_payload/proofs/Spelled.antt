@@ -1,6 +1,6 @@
 -- A payload is spelled by its blocks.
 use Rattle.std.proofs.Common.{◌≡◌, ℕ, ◌+◌, ◌*◌, ◌/◌, ◌%◌, ◌<◌, ◌≤◌, Bool, true, false, cond, ltb, List, [], ◌∷◌, ◌++◌, length, length-drop, take, drop, Option, Some, None, option_map, refl, sym, ap, subst, append-nil, ◌∙◌, arith}
-use Rattle.std.proofs.lemmas.Bool.Decides.{nat_tests}
+use Rattle.std.proofs.lemmas.Bool.{ltb-false}
 use Rattle.std.proofs.lemmas.List.{append_assoc, length-take-le, take-append-drop}
 use Rattle.byteorder.specs.Endian.{big_bytes, big_number}
 use Rattle.red_payload.specs.declared.fault.RedFault.TheVariants as fault
@@ -58,9 +58,6 @@ last_headed a behind octets h e = either (ltb a 128) e
     either true e = is h (some_is _ _ e)
     either false e = none_some None h refl e
 
-high_if : (a : ℕ) → ltb a 128 ≡ false → 128 ≤ a
-high_if a e = grind (arith, nat_tests)
-
 -- an older header in front of such headers
 older_headed : (a b c d : ℕ) (rest octets : List ℕ) (k : Heads) → AreOctets (a ∷ b ∷ c ∷ d ∷ rest) → 128 ≤ a → (older_of (a ∷ b ∷ c ∷ d ∷ rest)).size ≤ length octets
     → IsHeaded rest (drop (older_of (a ∷ b ∷ c ∷ d ∷ rest)).size octets) k → IsHeaded (a ∷ b ∷ c ∷ d ∷ rest) octets (with_older (older_of (a ∷ b ∷ c ∷ d ∷ rest)) k)
@@ -85,27 +82,24 @@ headed (a ∷ b ∷ c ∷ d ∷ rest) octets h bytes e fits =
       | true ↦ λ low. last_headed a (b ∷ c ∷ d ∷ rest) octets h
           (sym (ap (λ (t : Bool). cond t (last_header a (b ∷ c ∷ d ∷ rest)) (option_map (with_older o) (headers rest))) low) ∙ e)
       | false ↦ λ high.
-          let on : option_map (with_older o) (headers rest) ≡ Some h = sym (headers_on a b c d rest (high_if a high)) ∙ e in
+          let on : option_map (with_older o) (headers rest) ≡ Some h = sym (headers_on a b c d rest (ltb-false a 128 high)) ∙ e in
           elim (headers rest) as (λ (r : Option Heads). headers rest ≡ r → IsHeaded xs octets h) [
             | None ↦ λ none. none_some (option_map (with_older o) (headers rest)) h (ap (option_map (with_older o)) none) on
             | Some k ↦ λ some.
                 let same : with_older o k ≡ h = some_is _ _ (sym (ap (option_map (with_older o)) some) ∙ on) in
                 let sizes : o.size + total k.older ≤ length octets = rw (ap (λ (g : Heads). total g.older) same) fits in
                 subst (λ (g : Heads). IsHeaded xs octets g) same
-                (older_headed a b c d rest octets k bytes (high_if a high) (omega (arith, sizes))
+                (older_headed a b c d rest octets k bytes (ltb-false a 128 high) (omega (arith, sizes))
                 (headed rest (drop o.size octets) k bytes.1.1.1.1 some (omega (arith, sizes, length-drop o.size octets))))
           ] refl
     ] refl
 
 fits_if : (n t : ℕ) → cond (ltb n t) (Some fault.Block) None ≡ None → t ≤ n
-fits_if n t e = below n t (either (ltb n t) e)
+fits_if n t e = ltb-false n t (either (ltb n t) e)
   where
     either : (b : Bool) → cond b (Some fault.Block) None ≡ None → b ≡ false
     either true e = cc
     either false e = refl
-
-    below : (n t : ℕ) → ltb n t ≡ false → t ≤ n
-    below n t e = grind (arith, nat_tests)
 
 spelled_so : (payload : List ℕ) (r : Option Heads) → AreOctets payload → headers payload ≡ r → fault_of_heads r ≡ None → payload ≡ spelled (blocks_behind r)
 spelled_so payload None bytes e fine = none_some (Some fault.Header) fault.Header (fine) refl

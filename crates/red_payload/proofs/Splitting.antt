@@ -1,11 +1,12 @@
 -- What the headers say in all, told one after the other.
 use Rattle.std.proofs.Common.{◌≡◌, ℕ, ◌+◌, ◌-◌, ◌*◌, ◌<◌, ◌≤◌, true, false, List, [], ◌∷◌, length, take, drop, slice_index, Option, Some, None, option_map, refl, sym, ap, ◌∙◌, arith, length-drop}
+use Rattle.std.proofs.lemmas.Bool.{le-ltb, lt-ltb, cond-false, cond-true}
 use Rattle.std.proofs.lemmas.Bool.Decides.{nat_tests}
 use Rattle.std.proofs.lemmas.List.{take_all}
 use Rattle.red_payload.specs.declared.fault.RedFault.TheVariants as fault
 use Rattle.red_payload.specs.Blocks.{Older, Heads, blocks_behind, blocks_from, blocks_of, fault_of_heads, header_fault, headers, older_of, total, with_older}
 use Rattle.red_payload.specs.Walks.{IsSplit, blocks_left, blocks_with, is_older}
-use Rattle.red_payload.proofs.Walking.{headers_on, left_behind, lt_false, lt_true, none_some, skip, some_is, take_first}
+use Rattle.red_payload.proofs.Walking.{headers_on, left_behind, none_some, some_is}
 
 -- with n older blocks before, of t octets: how many there are, how many octets they have, and what is behind
 abbrev pub added : ℕ → ℕ → Heads → ℕ × (ℕ × List ℕ)
@@ -38,12 +39,12 @@ one_told n t (a ∷ b ∷ c ∷ d ∷ rest) long high =
     ap (option_map (added n t)) (headers_on a b c d rest high) ∙ added_on n t (older_of (a ∷ b ∷ c ∷ d ∷ rest)) (headers rest)
 
 -- the last header is told
-last_told : (xs : List ℕ) → (length xs ≡ 0 → ⊥) → slice_index xs 0 < 128 → headers xs ≡ Some (record { older = []; primary = slice_index xs 0; behind = drop 1 xs })
+pub last_told : (xs : List ℕ) → (length xs ≡ 0 → ⊥) → slice_index xs 0 < 128 → headers xs ≡ Some (record { older = []; primary = slice_index xs 0; behind = drop 1 xs })
 last_told [] some low = absurd (some refl)
-last_told (a ∷ []) some low = take_first _ _ _ (lt_true a 128 low)
-last_told (a ∷ b ∷ []) some low = take_first _ _ _ (lt_true a 128 low)
-last_told (a ∷ b ∷ c ∷ []) some low = take_first _ _ _ (lt_true a 128 low)
-last_told (a ∷ b ∷ c ∷ d ∷ rest) some low = take_first _ _ _ (lt_true a 128 low) ∙ take_first _ _ _ (lt_true a 128 low)
+last_told (a ∷ []) some low = cond-true _ _ _ (lt-ltb a 128 low)
+last_told (a ∷ b ∷ []) some low = cond-true _ _ _ (lt-ltb a 128 low)
+last_told (a ∷ b ∷ c ∷ []) some low = cond-true _ _ _ (lt-ltb a 128 low)
+last_told (a ∷ b ∷ c ∷ d ∷ rest) some low = cond-true _ _ _ (lt-ltb a 128 low) ∙ cond-true _ _ _ (lt-ltb a 128 low)
 
 -- all headers are told
 pub record IsTold (payload : List ℕ) (n t : ℕ) (behind : List ℕ) : Type 0 where
@@ -105,8 +106,8 @@ blocks_so payload behind n t told =
 
 pub fits_so : (payload behind : List ℕ) (n t : ℕ) → IsTold payload n t behind → t ≤ length behind → header_fault payload ≡ None
 fits_so payload behind n t told fits =
-    ap fault_of_heads told.is ∙ skip _ _ _ (lt_false (length told.heads.behind) (total told.heads.older) (rw (told.rest, told.octets) fits))
+    ap fault_of_heads told.is ∙ cond-false _ _ _ (le-ltb (length told.heads.behind) (total told.heads.older) (rw (told.rest, told.octets) fits))
 
 pub past_so : (payload behind : List ℕ) (n t : ℕ) → IsTold payload n t behind → length behind < t → header_fault payload ≡ Some fault.Block
 past_so payload behind n t told past =
-    ap fault_of_heads told.is ∙ take_first _ _ _ (lt_true (length told.heads.behind) (total told.heads.older) (rw (told.rest, told.octets) past))
+    ap fault_of_heads told.is ∙ cond-true _ _ _ (lt-ltb (length told.heads.behind) (total told.heads.older) (rw (told.rest, told.octets) past))

@@ -1,7 +1,7 @@
 -- The first frame with another signature, over two pieces of whole frames.
 use Rattle.std.proofs.Common.{◌≡◌, ℕ, zero, suc, ◌+◌, ◌*◌, ◌/◌, ◌%◌, ◌&&◌, ◌<◌, ◌≤◌, not, Bool, true, false, cond, eqb, List, ◌∷◌, ◌++◌, length, length-append, slice_index, Option, Some, None, option_map, refl, sym, ap, ◌∙◌, arith}
-use Rattle.std.specs.Option.{option_or}
 use Rattle.std.proofs.lemmas.Bool.{eqb-true}
+use Rattle.std.specs.Option.{option_or}
 use Rattle.std.proofs.lemmas.List.{get_or_append_left, get_or-append-add}
 use Rattle.rtp_codec.specs.Grammar.{first_unsigned}
 use Rattle.red_payload.specs.Blocks.{Block, first_broken, speech}

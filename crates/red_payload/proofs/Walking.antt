@@ -1,7 +1,7 @@
 -- The block at the front, and what is left behind it.
-use Rattle.std.proofs.Common.{◌≡◌, ℕ, ◌+◌, ◌-◌, ◌%◌, ◌<◌, ◌≤◌, Bool, true, false, cond, ltb, List, [], ◌∷◌, length, take, drop, slice_index, Option, Some, None, option_map, refl, sym, ap, ◌∙◌, arith, length-drop}
+use Rattle.std.proofs.Common.{◌≡◌, ℕ, ◌+◌, ◌-◌, ◌%◌, ◌≤◌, List, [], ◌∷◌, length, take, drop, slice_index, Option, Some, None, option_map, refl, sym, ap, ◌∙◌, arith, length-drop}
+use Rattle.std.proofs.lemmas.Bool.{le-ltb, cond-false}
 use Rattle.std.proofs.lemmas.List.{take_all}
-use Rattle.std.proofs.lemmas.Bool.Decides.{nat_tests}
 use Rattle.red_payload.specs.Blocks.{Older, Heads, Block, older_of, headers, last_header, with_older, total}
 use Rattle.red_payload.specs.Walks.{AreLeft, blocks_left, blocks_with}
 
@@ -13,21 +13,9 @@ pub record IsOlder (xs octets : List ℕ) : Type 0 where
   pub blocks : blocks_left xs octets ≡
       record { payload_type = (older_of xs).payload_type; offset = (older_of xs).offset; octets = take (older_of xs).size octets } ∷ blocks_left (drop 4 xs) (drop (older_of xs).size octets)
 
-pub lt_false : (a b : ℕ) → b ≤ a → ltb a b ≡ false
-lt_false a b h = grind (arith, nat_tests)
-
-pub lt_true : (a b : ℕ) → a < b → ltb a b ≡ true
-lt_true a b h = grind (arith, nat_tests)
-
-pub skip : {A : Type 0} (b : Bool) (x y : A) → b ≡ false → cond b x y ≡ y
-skip b x y e = ap (λ (t : Bool). cond t x y) e
-
-pub take_first : {A : Type 0} (b : Bool) (x y : A) → b ≡ true → cond b x y ≡ x
-take_first b x y e = ap (λ (t : Bool). cond t x y) e
-
 -- an octet from 128 on ends no headers
 pub no_last : (a : ℕ) (behind : List ℕ) → 128 ≤ a → last_header a behind ≡ None
-no_last a behind high = skip _ _ _ (lt_false a 128 high)
+no_last a behind high = cond-false _ _ _ (le-ltb a 128 high)
 
 pub none_some : {A B : Type 0} (o : Option A) (x : A) → o ≡ None → o ≡ Some x → B
 none_some o x n s = absurd (no_some x (sym n ∙ s))
@@ -37,7 +25,7 @@ none_some o x n s = absurd (no_some x (sym n ∙ s))
 
 -- the headers behind an older one
 pub headers_on : (a b c d : ℕ) (rest : List ℕ) → 128 ≤ a → headers (a ∷ b ∷ c ∷ d ∷ rest) ≡ option_map (with_older (older_of (a ∷ b ∷ c ∷ d ∷ rest))) (headers rest)
-headers_on a b c d rest high = skip _ _ _ (lt_false a 128 high)
+headers_on a b c d rest high = cond-false _ _ _ (le-ltb a 128 high)
 
 pub left_behind : (rest octets : List ℕ) (k : Heads) → headers rest ≡ Some k → total k.older ≤ length octets → AreLeft rest octets
 left_behind [] octets k e fits = tt

@@ -1,5 +1,5 @@
 -- The octets that blocks are spelled by.
-use Rattle.std.specs.Prelude.{◌≡◌, ℕ, ◌+◌, ◌*◌, ◌<◌, List, [], ◌∷◌, ◌++◌, length, None}
+use Rattle.std.specs.Prelude.{◌≡◌, ℕ, ◌+◌, ◌*◌, ◌^◌, ◌<◌, List, [], ◌∷◌, ◌++◌, length, None}
 use Rattle.std.specs.List.{AllByRecursion}
 use Rattle.byteorder.specs.Endian.{big_bytes}
 use Rattle.red_payload.specs.Blocks.{Block, blocks_of, header_fault}
@@ -26,3 +26,13 @@ AreOctets xs = AllByRecursion (λ o. o < 256) xs
 -- no octet of a payload is lost or read twice
 abbrev pub AreSpelled : Type 0
 AreSpelled = (payload : List ℕ) → AreOctets payload → header_fault payload ≡ None → payload ≡ spelled (blocks_of payload)
+
+-- what has a spelling: the primary block is the last, and the others fit their headers
+abbrev pub AreBlocks : List Block → Type 0
+AreBlocks [] = ⊥
+AreBlocks (b ∷ []) = (b.payload_type < 128) × (b.offset ≡ 0)
+AreBlocks (b ∷ c ∷ bs) = (b.payload_type < 128) × (b.offset < 2 ^ 14) × (length b.octets < 2 ^ 10) × AreBlocks (c ∷ bs)
+
+-- what is spelled so is read as these blocks
+abbrev pub AreReadBack : Type 0
+AreReadBack = (bs : List Block) → AreBlocks bs → (header_fault (spelled bs) ≡ None) × (blocks_of (spelled bs) ≡ bs)

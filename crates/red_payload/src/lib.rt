@@ -12,7 +12,7 @@ mod walk;
 
 pub use block::RedBlock;
 pub use fault::RedFault;
-pub use laws::blocks_spell_the_payload;
+pub use laws::blocks_spell_payloads;
 pub use read::read_red;
 pub use view::RedView;
 

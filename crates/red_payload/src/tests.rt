@@ -144,6 +144,6 @@ fn blocks_are_lent_in_their_order(rt: HostRuntime) -> Result<(), Fail> {
         }
         assert_eq!(rt; told, blocks, "of {size} octets");
     }
-    blocks_spell_the_payload();
+    blocks_spell_payloads();
     Ok(())
 }
