@@ -1,0 +1,5 @@
+pub mod BackLaws
+pub mod CodeLaws
+pub mod LevelLaws
+pub mod SegmentLaws
+pub mod Tables
