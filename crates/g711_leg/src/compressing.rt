@@ -1,5 +1,6 @@
 // From a sample to its code.
 ghost use Rattle.std.specs.Prelude.{◌≡◌, ◌≤◌, ◌<◌};
+ghost use Rattle.g711_leg.specs.Best.{code_of};
 ghost use Rattle.g711_leg.specs.Codes.{IsCompressed, magnitude_of};
 ghost use Rattle.g711_leg.specs.Levels.{IsAbout, IsNearest, IsSegment, raised_of};
 
@@ -8,6 +9,13 @@ use crate::law::Law;
 
 /// The code whose sample is nearest; of equally near ones that of the smaller magnitude, then the larger code.
 pub fn compress(law: Law, sample: i16) -> u8
+    ensures best { IsCompressed law sample result }
+    ensures code { result ≡ code_of law sample }
+{
+    best_code(law, sample)
+}
+
+fn best_code(law: Law, sample: i16) -> u8
     ensures { IsCompressed law sample result }
 {
     let level = nearest(law, u32::from(sample.unsigned_abs()));
