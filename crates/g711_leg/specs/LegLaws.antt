@@ -8,7 +8,7 @@ use Rattle.gate_io.specs.FlowLaws.{AppendsPart-whole}
 use Rattle.gate_io.specs.declared.link.Link as link
 use Rattle.gate_io.specs.declared.sink.Sink as sink
 use Rattle.g711_leg.specs.BlockLaws.{rest_few}
-use Rattle.g711_leg.specs.Legs.{Goes, GoesBy, GoesOut, Gone, IsKin, IsWaiting, LegState, OutState, SendsAll, au_head, codes_in, leg_faults, out_of, packets_in, rest_of, whole_blocks}
+use Rattle.g711_leg.specs.Legs.{Goes, GoesOn, GoesOut, Gone, IsKin, IsWaiting, LegState, OutState, SendsAll, au_head, codes_in, leg_faults, out_of, packets_in, rest_of, whole_blocks}
 use Rattle.g711_leg.specs.OutLaws.{goes_after, goes_none}
 
 -- a count that rose in a part of the time rose in all of it
@@ -60,7 +60,7 @@ leg_after o a p x y z k l = record {
 -- a give makes kin
 pub kin_by_give : {O A P T E : Type 0} (o : sink.Ghosts O) (a : sink.Ghosts A) (p : link.Ghosts P) (old new : LegState O A P) (result : Result T E) (octets : List ℕ)
     → new.called ≡ old.called → new.ready ≡ old.ready → new.start ≡ old.start → Gives (o.given old.speaker) (o.given new.speaker) result octets
-    → (old.ready ≡ true → GoesBy a p (out_of old) (out_of new) result octets) → HasCause (leg_faults o a p old) (leg_faults o a p new) result → IsKin o a p old new
+    → (old.ready ≡ true → GoesOn o a p old new result octets) → HasCause (leg_faults o a p old) (leg_faults o a p new) result → IsKin o a p old new
 kin_by_give o a p old new (Ok x) octets called ready start given goes cause =
     record { later = cause.later; called = called; ready = ready; start = start; gone = λ is waiting still. record { octets = octets; speaker = given; out = goes is } }
 kin_by_give o a p old new (Err e) octets called ready start given goes cause =

@@ -1,5 +1,5 @@
 -- What a leg gives and sends: the codes of whole blocks of 320 octets, and a packet for each.
-use Rattle.std.specs.Prelude.{◌≡◌, ℕ, zero, suc, ◌+◌, ◌*◌, ◌/◌, ◌%◌, ◌^◌, ◌<◌, ◌≤◌, Bool, true, false, List, [], ◌∷◌, ◌++◌, length, map, take, drop, flat_map, ℤ, Option, Result, MatchResult}
+use Rattle.std.specs.Prelude.{◌≡◌, ◌⊎◌, ℕ, zero, suc, ◌+◌, ◌*◌, ◌/◌, ◌%◌, ◌^◌, ◌<◌, ◌≤◌, Bool, true, false, List, [], ◌∷◌, ◌++◌, length, map, take, drop, flat_map, ℤ, Option, Result, MatchResult}
 use Rattle.std.specs.Int.{w16, cast_signed}
 use Rattle.std.specs.Io.KnownBytes.{Appends}
 use Rattle.byteorder.specs.Endian.{big_bytes}
@@ -141,6 +141,13 @@ out_of s = record { au = s.au; link = s.link; start = s.start; rest = s.rest; pa
 
 abbrev pub leg_faults : {O A P : Type 0} → sink.Ghosts O → sink.Ghosts A → link.Ghosts P → LegState O A P → ℕ
 leg_faults o a p s = o.faults s.speaker + (a.faults s.au + p.faults s.link)
+
+-- Where `begin` has answered Ok: the octets went on behind the speaker; or the speaker failed, and nothing went on; or the speaker was given all of them, and
+-- a part behind it failed.
+abbrev pub GoesOn : {O A P T E : Type 0} → sink.Ghosts O → sink.Ghosts A → link.Ghosts P → LegState O A P → LegState O A P → Result T E → List ℕ → Type 0
+GoesOn o a p old new result octets = MatchResult result
+    (λ _. Goes a p (out_of old) (out_of new) octets)
+    (λ _. (out_of new ≡ out_of old) ⊎ (Appends (o.given old.speaker) (o.given new.speaker) octets × GoesPart a p (out_of old) (out_of new) octets))
 
 -- fewer octets wait than a block has, and the number of packets is one modulo 2 ^ 32: so it is of each leg
 pub record IsWaiting {A P : Type 0} (s : OutState A P) : Type 0 where

@@ -3,7 +3,7 @@ ghost use Rattle.std.specs.Prelude.{◌≡◌, true, false, is_ok, []};
 ghost use Rattle.gate_base.specs.Faults.{HasCause};
 ghost use Rattle.gate_io.specs.Flow.{Gives};
 ghost use Rattle.g711_leg.specs.LegLaws.{leg_after, same_leg};
-ghost use Rattle.g711_leg.specs.Legs.{GoesBy, IsKin, au_head, leg_faults, out_of};
+ghost use Rattle.g711_leg.specs.Legs.{GoesOn, IsKin, au_head, leg_faults};
 
 use crate::law::Law;
 use crate::out::Out;
@@ -96,7 +96,7 @@ impl<O: Sink, A: Sink, P: Link> Leg<O, A, P> {
         ensures ready { self.new.ready ≡ self.old.ready }
         ensures start { self.new.start ≡ self.old.start }
         ensures alone { self.old.ready ≡ false → self.new ≡ record self.old { speaker = self.new.speaker } }
-        ensures goes { self.old.ready ≡ true → GoesBy A.Sink P.Link (out_of self.old) (out_of self.new) result from.now }
+        ensures goes { self.old.ready ≡ true → GoesOn O.Sink A.Sink P.Link self.old self.new result from.now }
     {
         match self.speaker.give(from) {
             Ok(()) => {
@@ -128,7 +128,7 @@ impl<O: Sink, A: Sink, P: Link> Sink for Leg<O, A, P> {
         ensures kin { IsKin O.Sink A.Sink P.Link self.old self.new }
 
         ensures alone { self.old.ready ≡ false → self.new ≡ record self.old { speaker = self.new.speaker } }
-        ensures goes { self.old.ready ≡ true → GoesBy A.Sink P.Link (out_of self.old) (out_of self.new) result from.now }
+        ensures goes { self.old.ready ≡ true → GoesOn O.Sink A.Sink P.Link self.old self.new result from.now }
     {
         self.give_on(from)
     }

@@ -1,6 +1,7 @@
 //! A leg in G.711: codes of 8 bits by both laws, expanded and compressed, and speech that goes out in them.
 #![tactic(auto)]
 
+mod au;
 mod codes;
 mod compressing;
 mod expanding;
@@ -9,6 +10,7 @@ mod laws;
 mod leg;
 mod out;
 
+pub use au::au_head;
 pub use compressing::compress;
 pub use expanding::expand;
 pub use law::Law;

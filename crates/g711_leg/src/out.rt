@@ -4,9 +4,9 @@ ghost use Rattle.gate_base.specs.Faults.{HasCause};
 ghost use Rattle.gate_io.specs.Flow.{Gives};
 ghost use Rattle.g711_leg.specs.Legs.{GoesBy, au_head, out_faults, packet_of};
 
+use crate::au::au_head;
 use crate::codes::codes_of;
 use crate::law::Law;
-use byteorder::{BigEndian, ByteOrder};
 use gate_io::{Failed, Link, Sink};
 use rtp_codec::{RtpHead, write_rtp};
 use std::marker::Model;
@@ -172,22 +172,4 @@ fn packet_of(
     let mut octets = [0; 172];
     write_rtp(&head, codes, &mut octets);
     octets
-}
-
-/// The head of an `.au` file of 24 octets.
-fn au_head(law: Law) -> [u8; 24]
-    ensures { result ≡ au_head law }
-{
-    let encoding = match law {
-        Law::Mu => 1,
-        Law::A => 27,
-    };
-    let mut head = [0; 24];
-    BigEndian::write_u32(&mut head[..], 0x2E736E64);
-    BigEndian::write_u32(&mut head[4..], 24);
-    BigEndian::write_u32(&mut head[8..], 0xFFFFFFFF);
-    BigEndian::write_u32(&mut head[12..], encoding);
-    BigEndian::write_u32(&mut head[16..], 8000);
-    BigEndian::write_u32(&mut head[20..], 1);
-    head
 }

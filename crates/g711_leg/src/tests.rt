@@ -43,6 +43,8 @@ fn codes_by_table(rt: HostRuntime) {
 #[test]
 fn each_code_comes_back(rt: HostRuntime) {
     comes_back();
+    assert_eq!(rt; au_head(Law::Mu)[15], 1);
+    assert_eq!(rt; au_head(Law::A)[15], 27);
     for code in 0..=255u8 {
         let mu = compress(Law::Mu, expand(Law::Mu, code));
         assert!(rt; mu == code || code == 127 && mu == 255);
