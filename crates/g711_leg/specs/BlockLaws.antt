@@ -1,8 +1,10 @@
 -- The blocks of octets that come in two pieces.
 use Rattle.std.proofs.Common.{◌≡◌, ℕ, zero, suc, ◌+◌, ◌-◌, ◌*◌, ◌/◌, ◌%◌, ◌^◌, ◌<◌, ◌≤◌, List, [], ◌∷◌, ◌++◌, length, drop, take, refl, sym, ap, ◌∙◌, arith, length-append, length-drop}
 use Rattle.std.proofs.Math.Seq.{take-length}
-use Rattle.std.proofs.lemmas.List.{take-append-le}
-use Rattle.g711_leg.specs.Legs.{Start, blocks, codes_of, packet_of, packets_in, rest_of, whole_blocks}
+use Rattle.std.proofs.lemmas.List.{length-map, length-take-le, take-append-le}
+use Rattle.g711_leg.specs.Legs.{Start, blocks, codes_in, codes_of, packet_of, packets_in, rest_of, samples_of, whole_blocks}
+use Rattle.g711_leg.specs.Best.{code_of}
+use Rattle.g711_leg.specs.declared.law.Law.{Law}
 
 drop_all : (xs : List ℕ) → drop (length xs) xs ≡ []
 drop_all [] = refl
@@ -102,3 +104,36 @@ packets_append s i (x ∷ xs) ys =
     let e : suc i + length xs ≡ i + suc (length xs) = omega arith in
     ap (λ (packets : List (List ℕ)). packet_of s i (codes_of s.law x) ∷ packets)
     (packets_append s (suc i) xs ys ∙ ap (λ (j : ℕ). packets_in s (suc i) xs ++ packets_in s j ys) e)
+
+-- ---- how many there are
+
+length_samples : (n : ℕ) (xs : List ℕ) → length xs ≡ 2 * n → length (samples_of xs) ≡ n
+length_samples zero [] size = refl
+length_samples (suc n) [] size = absurd (omega arith)
+length_samples zero (a ∷ xs) size = absurd (omega arith)
+length_samples (suc n) (a ∷ []) size = absurd (omega arith)
+length_samples (suc n) (a ∷ b ∷ xs) size = ap suc (length_samples n xs (omega arith))
+
+pub length_codes : (law : Law) (part : List ℕ) → length part ≡ 320 → length (codes_of law part) ≡ 160
+length_codes law part full = length-map (samples_of part) (code_of law) ∙ length_samples 160 part full
+
+length_codes_in : (law : Law) (n : ℕ) (xs : List ℕ) → 320 * n ≤ length xs → length (codes_in law (blocks n xs)) ≡ 160 * n
+length_codes_in law zero xs le = refl
+length_codes_in law (suc n) xs le =
+    let first : length (codes_of law (take 320 xs)) ≡ 160 = length_codes law (take 320 xs) (length-take-le 320 xs (omega arith)) in
+    let rest : length (codes_in law (blocks n (drop 320 xs))) ≡ 160 * n = length_codes_in law n (drop 320 xs) (omega (arith, length-drop 320 xs)) in
+    length-append (codes_of law (take 320 xs)) (codes_in law (blocks n (drop 320 xs))) ∙ omega (arith, first, rest)
+
+length_blocks : (n : ℕ) (xs : List ℕ) → length (blocks n xs) ≡ n
+length_blocks zero xs = refl
+length_blocks (suc n) xs = ap suc (length_blocks n (drop 320 xs))
+
+length_packets : (s : Start) (i : ℕ) (parts : List (List ℕ)) → length (packets_in s i parts) ≡ length parts
+length_packets s i [] = refl
+length_packets s i (part ∷ parts) = ap suc (length_packets s (suc i) parts)
+
+-- 160 codes to a packet
+pub codes_of_packets : (s : Start) (i : ℕ) (xs : List ℕ) → length (codes_in s.law (whole_blocks xs)) ≡ 160 * length (packets_in s i (whole_blocks xs))
+codes_of_packets s i xs =
+    let n : ℕ = length xs / 320 in
+    omega (arith, length_codes_in s.law n xs (omega arith), length_packets s i (whole_blocks xs), length_blocks n xs)

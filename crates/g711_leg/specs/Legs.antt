@@ -4,7 +4,6 @@ use Rattle.std.specs.Int.{w16, cast_signed}
 use Rattle.std.specs.Io.KnownBytes.{Appends}
 use Rattle.byteorder.specs.Endian.{big_bytes}
 use Rattle.gate_base.specs.Faults.{Rose}
-use Rattle.gate_io.specs.Flow.{AppendsPart}
 use Rattle.gate_io.specs.Links.{GoesTo, LinkLog}
 use Rattle.gate_io.specs.declared.link.Link as link
 use Rattle.gate_io.specs.declared.sink.Sink as sink
@@ -84,12 +83,9 @@ pub record OutState (A P : Type 0) : Type 0 where
   pub rest : List ℕ
   pub packets : ℕ
 
--- the log grows by these datagrams, or by the first of them
+-- the log grows by these datagrams
 abbrev pub SendsAll : Option LinkLog → Option LinkLog → List (List ℕ) → Type 0
 SendsAll old new datagrams = GoesTo old new (λ a b. b ≡ record a { sent = a.sent ++ datagrams })
-
-abbrev pub SendsPart : Option LinkLog → Option LinkLog → List (List ℕ) → Type 0
-SendsPart old new datagrams = (k : ℕ) × SendsAll old new (take k datagrams)
 
 -- the whole blocks of what waits and these octets, and the codes and packets of them
 abbrev pub blocks_with : {A P : Type 0} → OutState A P → List ℕ → List (List ℕ)
@@ -110,10 +106,14 @@ pub record Goes {A P : Type 0} (a : sink.Ghosts A) (p : link.Ghosts P) (old new 
   pub rest : new.rest ≡ rest_of (old.rest ++ octets)
   pub packets : new.packets ≡ (old.packets + length (blocks_with old octets)) % 2 ^ 32
 
--- a part failed while these octets came: each has a prefix
+-- A part failed while these octets came: each has a prefix. No packet was sent before its codes were given, and those of at most one were given without it.
 pub record GoesPart {A P : Type 0} (a : sink.Ghosts A) (p : link.Ghosts P) (old new : OutState A P) (octets : List ℕ) : Type 0 where
-  pub au : AppendsPart (a.given old.au) (a.given new.au) (codes_with old octets)
-  pub link : SendsPart (p.log old.link) (p.log new.link) (packets_with old octets)
+  pub given : ℕ
+  pub sent : ℕ
+  pub au : Appends (a.given old.au) (a.given new.au) (take given (codes_with old octets))
+  pub link : SendsAll (p.log old.link) (p.log new.link) (take sent (packets_with old octets))
+  pub codes_first : 160 * sent ≤ given
+  pub one_ahead : given ≤ 160 * (sent + 1)
   pub ended : p.ended new.link ≡ p.ended old.link
   pub start : new.start ≡ old.start
 

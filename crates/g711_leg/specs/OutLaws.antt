@@ -1,18 +1,17 @@
 -- Octets that come in two pieces.
-use Rattle.std.proofs.Common.{◌≡◌, ℕ, zero, suc, ◌+◌, ◌%◌, ◌^◌, ◌<◌, List, [], ◌∷◌, ◌++◌, length, take, Option, Some, None, Result, Ok, Err, ◌⊎◌, inl, inr, refl, sym, ap, ◌∙◌, subst, append_assoc, arith, length-append}
+use Rattle.std.proofs.Common.{◌≡◌, ℕ, zero, suc, ◌+◌, ◌%◌, ◌*◌, ◌^◌, ◌<◌, ◌≤◌, List, [], ◌∷◌, ◌++◌, length, take, Option, Some, None, Result, Ok, Err, ◌⊎◌, inl, inr, refl, sym, ap, ◌∙◌, subst, append_assoc, arith, length-append}
 use Rattle.std.specs.Prelude.{true, false, is_err}
-use Rattle.std.proofs.lemmas.List.{append-nil}
+use Rattle.std.proofs.lemmas.List.{append-nil, length-take}
 use Rattle.std.proofs.lemmas.Grind.{flat_map-append}
-use Rattle.std.proofs.Math.Seq.{take-append-add}
+use Rattle.std.proofs.Math.Seq.{take-append-add, take-length}
 use Rattle.std.specs.Io.KnownBytes.{Appends}
 use Rattle.std.proofs.KnownBytes.{Appends-nil, Appends-trans}
 use Rattle.gate_io.specs.Flow.{AppendsPart}
-use Rattle.gate_io.specs.FlowLaws.{AppendsPart-after, AppendsPart-longer, AppendsPart-whole}
 use Rattle.gate_io.specs.Links.{GoesTo, LinkLog, Sends, with_sent}
 use Rattle.gate_io.specs.declared.link.Link as link
 use Rattle.gate_io.specs.declared.sink.Sink as sink
-use Rattle.g711_leg.specs.Legs.{Goes, GoesBy, GoesPart, OutState, SendsAll, SendsPart, Start, blocks_with, codes_in, codes_of, codes_with, packet_of, packets_in, packets_with, rest_of, whole_blocks}
-use Rattle.g711_leg.specs.BlockLaws.{packets_append, rest_none, rest_one, rest_split, same_packets, whole_none, whole_one, whole_split}
+use Rattle.g711_leg.specs.Legs.{Goes, GoesBy, GoesPart, OutState, SendsAll, Start, blocks_with, codes_in, codes_of, codes_with, packet_of, packets_in, packets_with, rest_of, whole_blocks}
+use Rattle.g711_leg.specs.BlockLaws.{codes_of_packets, length_codes, packets_append, rest_none, rest_one, rest_split, same_packets, whole_none, whole_one, whole_split}
 
 -- ---- the link's log
 
@@ -29,16 +28,11 @@ sends_after (Some x) None c xs ys p q = absurd p
 sends_after (Some x) (Some y) None xs ys p q = absurd q
 sends_after (Some x) (Some y) (Some z) xs ys p q = sends_twice x y z xs ys p q
 
-pub part_after : (a b c : Option LinkLog) (xs ys : List (List ℕ)) → SendsAll a b xs → SendsPart b c ys → SendsPart a c (xs ++ ys)
-part_after a b c xs ys p q = (length xs + q.0, subst (SendsAll a c) (sym (take-append-add xs ys q.0)) (sends_after a b c xs (take q.0 ys) p q.1))
-
-pub part_longer : (a b : Option LinkLog) (xs ys : List (List ℕ)) → SendsPart a b xs → SendsPart a b (xs ++ ys)
-part_longer a b xs ys p = (length (take p.0 xs), subst (SendsAll a b) (shorter p.0 xs ys) p.1)
-  where
-    shorter : (k : ℕ) (xs ys : List (List ℕ)) → take k xs ≡ take (length (take k xs)) (xs ++ ys)
-    shorter zero xs ys = refl
-    shorter (suc k) [] ys = refl
-    shorter (suc k) (x ∷ xs) ys = ap (λ (l : List (List ℕ)). x ∷ l) (shorter k xs ys)
+-- the first of the first are the first of all
+pub shorter : {X : Type 0} (k : ℕ) (xs ys : List X) → take k xs ≡ take (length (take k xs)) (xs ++ ys)
+shorter zero xs ys = refl
+shorter (suc k) [] ys = refl
+shorter (suc k) (x ∷ xs) ys = ap (λ (l : List _). x ∷ l) (shorter k xs ys)
 
 -- ---- what goes out
 
@@ -90,20 +84,41 @@ pub part_after_goes : {A P : Type 0} (a : sink.Ghosts A) (p : link.Ghosts P) (ol
     → GoesPart a p old new (xs ++ ys)
 part_after_goes a p old mid new xs ys h k =
     let f = follows a p old mid xs h in
+    let codes : List ℕ = codes_with old xs in
+    let packets : List (List ℕ) = packets_with old xs in
+    let size : length codes ≡ 160 * length packets = codes_of_packets old.start old.packets (old.rest ++ xs) in
     record {
-      au = subst (AppendsPart (a.given old.au) (a.given new.au)) (sym (codes_both old mid xs ys f)) (AppendsPart-after (a.given old.au) (a.given mid.au) (a.given new.au) _ _ h.au k.au);
-      link = subst (SendsPart (p.log old.link) (p.log new.link)) (sym (packets_both old mid xs ys f)) (part_after (p.log old.link) (p.log mid.link) (p.log new.link) _ _ h.link k.link);
+      given = length codes + k.given;
+      sent = length packets + k.sent;
+      au = subst (Appends (a.given old.au) (a.given new.au))
+          (sym (ap (take (length codes + k.given)) (codes_both old mid xs ys f) ∙ take-append-add codes (codes_with mid ys) k.given))
+          (Appends-trans (a.given old.au) (a.given mid.au) (a.given new.au) codes (take k.given (codes_with mid ys)) h.au k.au);
+      link = subst (SendsAll (p.log old.link) (p.log new.link))
+          (sym (ap (take (length packets + k.sent)) (packets_both old mid xs ys f) ∙ take-append-add packets (packets_with mid ys) k.sent))
+          (sends_after (p.log old.link) (p.log mid.link) (p.log new.link) packets (take k.sent (packets_with mid ys)) h.link k.link);
+      codes_first = omega (arith, size, k.codes_first);
+      one_ahead = omega (arith, size, k.one_ahead);
       ended = k.ended ∙ h.ended;
       start = k.start ∙ h.start;
     }
 
 -- a piece is longer than the part of it at which a part failed
 pub part_of_longer : {A P : Type 0} (a : sink.Ghosts A) (p : link.Ghosts P) (old new : OutState A P) (xs ys : List ℕ) → GoesPart a p old new xs → GoesPart a p old new (xs ++ ys)
-part_of_longer a p old new xs ys h =
-    let f : Follows old (record old { rest = rest_of (old.rest ++ xs); packets = (old.packets + length (blocks_with old xs)) % 2 ^ 32 }) xs = record { start = refl; rest = refl; packets = refl } in
+part_of_longer {A} {P} a p old new xs ys h =
+    let mid : OutState A P = record old { rest = rest_of (old.rest ++ xs); packets = (old.packets + length (blocks_with old xs)) % 2 ^ 32 } in
+    let f : Follows old mid xs = record { start = refl; rest = refl; packets = refl } in
+    let codes : List ℕ = codes_with old xs in
+    let packets : List (List ℕ) = packets_with old xs in
+    let size : length codes ≡ 160 * length packets = codes_of_packets old.start old.packets (old.rest ++ xs) in
     record {
-      au = subst (AppendsPart (a.given old.au) (a.given new.au)) (sym (codes_both old _ xs ys f)) (AppendsPart-longer (a.given old.au) (a.given new.au) _ _ h.au);
-      link = subst (SendsPart (p.log old.link) (p.log new.link)) (sym (packets_both old _ xs ys f)) (part_longer (p.log old.link) (p.log new.link) _ _ h.link);
+      given = length (take h.given codes);
+      sent = length (take h.sent packets);
+      au = subst (Appends (a.given old.au) (a.given new.au))
+          (shorter h.given codes (codes_with mid ys) ∙ sym (ap (take (length (take h.given codes))) (codes_both old mid xs ys f))) h.au;
+      link = subst (SendsAll (p.log old.link) (p.log new.link))
+          (shorter h.sent packets (packets_with mid ys) ∙ sym (ap (take (length (take h.sent packets))) (packets_both old mid xs ys f))) h.link;
+      codes_first = omega (arith, size, length-take h.given codes, length-take h.sent packets, h.codes_first);
+      one_ahead = omega (arith, size, length-take h.given codes, length-take h.sent packets, h.one_ahead);
       ended = h.ended;
       start = h.start;
     }
@@ -140,18 +155,19 @@ goes_waiting a p old octets few packets =
 from_block : {A P T E : Type 0} (a : sink.Ghosts A) (p : link.Ghosts P) (old new : OutState A P) (result : Result T E) (octets : List ℕ)
     → GoesBy a p (record old { rest = [] }) new result (old.rest ++ octets) → GoesBy a p old new result octets
 from_block a p old new (Ok x) octets h = record { au = h.au; link = h.link; ended = h.ended; start = h.start; rest = h.rest; packets = h.packets }
-from_block a p old new (Err e) octets h = record { au = h.au; link = h.link; ended = h.ended; start = h.start }
+from_block a p old new (Err e) octets h =
+    record { given = h.given; sent = h.sent; au = h.au; link = h.link; codes_first = h.codes_first; one_ahead = h.one_ahead; ended = h.ended; start = h.start }
 
 pub goes_from_block : {A P T E : Type 0} (a : sink.Ghosts A) (p : link.Ghosts P) (old new : OutState A P) (result : Result T E) (octets block : List ℕ) → block ≡ old.rest ++ octets
     → GoesBy a p (record old { rest = [] }) new result block → GoesBy a p old new result octets
 goes_from_block a p old new result octets block e h = from_block a p old new result octets (subst (GoesBy a p (record old { rest = [] }) new result) e h)
 
 -- a datagram was sent or not
-sent_part : (a b : Option LinkLog) (packet : List ℕ) → GoesTo a b (λ x y. (y ≡ x) ⊎ (y ≡ with_sent x packet)) → SendsPart a b (packet ∷ [])
-sent_part None b packet h = (0, tt)
+sent_part : (a b : Option LinkLog) (packet : List ℕ) → GoesTo a b (λ x y. (y ≡ x) ⊎ (y ≡ with_sent x packet)) → (k : ℕ) × (k ≤ 1) × SendsAll a b (take k (packet ∷ []))
+sent_part None b packet h = (0, omega arith, tt)
 sent_part (Some x) None packet h = absurd h
-sent_part (Some x) (Some y) packet (inl same) = (0, same ∙ (λ i. record x { sent = sym (append-nil x.sent) i }))
-sent_part (Some x) (Some y) packet (inr more) = (1, more)
+sent_part (Some x) (Some y) packet (inl same) = (0, omega arith, same ∙ (λ i. record x { sent = sym (append-nil x.sent) i }))
+sent_part (Some x) (Some y) packet (inr more) = (1, omega arith, more)
 
 -- what a block does where nothing waits
 record OneBlock {A P : Type 0} (old : OutState A P) (block codes packet : List ℕ) : Type 0 where
@@ -189,9 +205,16 @@ block_sent a p old new (Ok x) block codes packet empty full codes_are packet_is 
     }
 block_sent a p old new (Err e) block codes packet empty full codes_are packet_is au sent ended start rest packets =
     let h : OneBlock old block codes packet = record { empty = empty; full = full; codes_are = codes_are; packet_is = packet_is } in
+    let k = sent_part (p.log old.link) (p.log new.link) packet sent in
+    let size : length codes ≡ 160 = ap length codes_are ∙ length_codes old.start.law block full in
     record {
-      au = subst (AppendsPart (a.given old.au) (a.given new.au)) (sym (one_codes old block codes packet h)) (AppendsPart-whole (a.given old.au) (a.given new.au) codes au);
-      link = subst (SendsPart (p.log old.link) (p.log new.link)) (sym (one_packet old block codes packet h)) (sent_part (p.log old.link) (p.log new.link) packet sent);
+      given = 160;
+      sent = k.0;
+      au = subst (λ (l : List ℕ). Appends (a.given old.au) (a.given new.au) (take 160 l)) (sym (one_codes old block codes packet h))
+          (subst (Appends (a.given old.au) (a.given new.au)) (sym (ap (λ (n : ℕ). take n codes) (sym size) ∙ take-length codes)) au);
+      link = subst (λ (l : List (List ℕ)). SendsAll (p.log old.link) (p.log new.link) (take k.0 l)) (sym (one_packet old block codes packet h)) k.2;
+      codes_first = omega (arith, k.1);
+      one_ahead = omega arith;
       ended = ended;
       start = start;
     }
@@ -201,9 +224,17 @@ pub block_lost : {A P : Type 0} (a : sink.Ghosts A) (p : link.Ghosts P) (old new
     → AppendsPart (a.given old.au) (a.given new.au) codes → new.link ≡ old.link → new.start ≡ old.start → GoesPart a p old new block
 block_lost {P = P} a p old new block codes empty full codes_are au same start =
     let h : OneBlock old block codes (packet_of old.start old.packets codes) = record { empty = empty; full = full; codes_are = codes_are; packet_is = refl } in
+    let size : length codes ≡ 160 = ap length codes_are ∙ length_codes old.start.law block full in
+    let fewer : take au.0 codes ≡ take (length (take au.0 codes)) codes =
+    shorter au.0 codes [] ∙ ap (take (length (take au.0 codes))) (append-nil codes) in
     record {
-      au = subst (AppendsPart (a.given old.au) (a.given new.au)) (sym (one_codes old block codes _ h)) au;
-      link = (0, subst (λ (l : P). SendsAll (p.log old.link) (p.log l) []) (sym same) (sends_none (p.log old.link)));
+      given = length (take au.0 codes);
+      sent = 0;
+      au = subst (λ (l : List ℕ). Appends (a.given old.au) (a.given new.au) (take (length (take au.0 codes)) l)) (sym (one_codes old block codes _ h))
+          (subst (Appends (a.given old.au) (a.given new.au)) fewer au.1);
+      link = subst (λ (l : P). SendsAll (p.log old.link) (p.log l) []) (sym same) (sends_none (p.log old.link));
+      codes_first = omega arith;
+      one_ahead = omega (arith, size, length-take au.0 codes);
       ended = ap p.ended same;
       start = start;
     }
