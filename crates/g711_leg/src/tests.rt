@@ -70,6 +70,8 @@ fn counts(leg: MemoryLeg) -> (usize, usize, usize) {
     (speaker.octets().len(), au.octets().len(), link.sent_count())
 }
 
+fn is_send<T: Send>(_: &T) {}
+
 // Whether the packet at this place has this header, and then 160 codes of this value.
 fn sent(link: &MemoryLink, i: usize, header: &[u8; 12], code: u8) -> bool {
     if i >= link.sent_count() {
@@ -122,6 +124,7 @@ fn numbers_wrap_and_a_rest_waits(rt: HostRuntime) -> Result<(), Fail> {
 #[test]
 fn nothing_goes_out_before_begin_or_where_it_failed(rt: HostRuntime) -> Result<(), Fail> {
     let mut early = leg(rt.alloc(), &[])?;
+    is_send(&early);
     let given = early.give(&[0; 640]);
     assert!(rt; given.is_ok() && counts(early) == (640, 0, 0));
     let mut failed = leg(rt.alloc(), &[(0, 3)])?;
