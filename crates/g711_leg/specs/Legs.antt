@@ -1,5 +1,5 @@
 -- What a leg gives and sends: the codes of whole blocks of 320 octets, and a packet for each.
-use Rattle.std.specs.Prelude.{◌≡◌, ◌⊎◌, ℕ, zero, suc, ◌+◌, ◌*◌, ◌/◌, ◌%◌, ◌^◌, ◌<◌, ◌≤◌, Bool, true, false, List, [], ◌∷◌, ◌++◌, length, map, take, drop, flat_map, ℤ, Option, Result, MatchResult}
+use Rattle.std.specs.Prelude.{◌≡◌, ◌⊎◌, ℕ, zero, suc, ◌+◌, ◌*◌, ◌/◌, ◌%◌, ◌^◌, ◌<◌, ◌≤◌, Bool, true, false, List, [], ◌∷◌, ◌++◌, length, map, take, drop, flat_map, ℤ, Option, Result, MatchResult, OnErr}
 use Rattle.std.specs.Int.{w16, cast_signed}
 use Rattle.std.specs.Io.KnownBytes.{Appends}
 use Rattle.byteorder.specs.Endian.{big_bytes}
@@ -120,8 +120,11 @@ pub record GoesPart {A P : Type 0} (a : sink.Ghosts A) (p : link.Ghosts P) (old 
 abbrev pub GoesBy : {A P T E : Type 0} → sink.Ghosts A → link.Ghosts P → OutState A P → OutState A P → Result T E → List ℕ → Type 0
 GoesBy a p old new result octets = MatchResult result (λ _. Goes a p old new octets) (λ _. GoesPart a p old new octets)
 
-abbrev pub out_faults : {A P : Type 0} → sink.Ghosts A → link.Ghosts P → OutState A P → ℕ
-out_faults a p s = a.faults s.au + p.faults s.link
+-- no count fell, and a fault comes only where one rose
+pub record OutCause {A P T E : Type 0} (a : sink.Ghosts A) (p : link.Ghosts P) (old new : OutState A P) (result : Result T E) : Type 0 where
+  pub au : a.faults old.au ≤ a.faults new.au
+  pub link : p.faults old.link ≤ p.faults new.link
+  pub failed : OnErr result (Rose (a.faults old.au) (a.faults new.au) ⊎ Rose (p.faults old.link) (p.faults new.link))
 
 -- ---- the leg
 
@@ -142,6 +145,17 @@ out_of s = record { au = s.au; link = s.link; start = s.start; rest = s.rest; pa
 abbrev pub leg_faults : {O A P : Type 0} → sink.Ghosts O → sink.Ghosts A → link.Ghosts P → LegState O A P → ℕ
 leg_faults o a p s = o.faults s.speaker + (a.faults s.au + p.faults s.link)
 
+-- the count of a part rose
+abbrev pub AnyRose : {O A P : Type 0} → sink.Ghosts O → sink.Ghosts A → link.Ghosts P → LegState O A P → LegState O A P → Type 0
+AnyRose o a p old new =
+    Rose (o.faults old.speaker) (o.faults new.speaker) ⊎ (Rose (a.faults old.au) (a.faults new.au) ⊎ Rose (p.faults old.link) (p.faults new.link))
+
+-- no count of a part fell
+pub record NoneFell {O A P : Type 0} (o : sink.Ghosts O) (a : sink.Ghosts A) (p : link.Ghosts P) (old new : LegState O A P) : Type 0 where
+  pub speaker : o.faults old.speaker ≤ o.faults new.speaker
+  pub au : a.faults old.au ≤ a.faults new.au
+  pub link : p.faults old.link ≤ p.faults new.link
+
 -- Where `begin` has answered Ok: the octets went on behind the speaker; or the speaker failed, and nothing went on; or the speaker was given all of them, and
 -- a part behind it failed.
 abbrev pub GoesOn : {O A P T E : Type 0} → sink.Ghosts O → sink.Ghosts A → link.Ghosts P → LegState O A P → LegState O A P → Result T E → List ℕ → Type 0
@@ -160,14 +174,14 @@ pub record Gone {O A P : Type 0} (o : sink.Ghosts O) (a : sink.Ghosts A) (p : li
   pub speaker : Appends (o.given old.speaker) (o.given new.speaker) octets
   pub out : Goes a p (out_of old) (out_of new) octets
 
--- A later state of a leg and an earlier one. The count did not fall. `begin` and its values are the same in both. Where it had answered Ok, and the count did
--- not rise, some octets came in between.
+-- A later state of a leg and an earlier one. No count fell. `begin` and its values are the same in both. Where it had answered Ok, and no count rose, some octets
+-- came in between.
 pub record IsKin {O A P : Type 0} (o : sink.Ghosts O) (a : sink.Ghosts A) (p : link.Ghosts P) (old new : LegState O A P) : Type 0 where
-  pub later : leg_faults o a p old ≤ leg_faults o a p new
+  pub later : NoneFell o a p old new
   pub called : new.called ≡ old.called
   pub ready : new.ready ≡ old.ready
   pub start : new.start ≡ old.start
-  pub gone : old.ready ≡ true → IsWaiting (out_of old) → (Rose (leg_faults o a p old) (leg_faults o a p new) → ⊥) → Gone o a p old new
+  pub gone : old.ready ≡ true → IsWaiting (out_of old) → (AnyRose o a p old new → ⊥) → Gone o a p old new
 
 -- a `begin` with these values has answered Ok
 pub record HasBegun {O A P : Type 0} (a : sink.Ghosts A) (old new : LegState O A P) (start : Start) : Type 0 where
@@ -185,4 +199,4 @@ pub record IsWhole {O A P : Type 0} (o : sink.Ghosts O) (a : sink.Ghosts A) (p :
 abbrev pub GoesOut : {O A P : Type 0} → sink.Ghosts O → sink.Ghosts A → link.Ghosts P → Type 0
 GoesOut {O} {A} {P} o a p =
     (old begun new : LegState O A P) (start : Start) → HasBegun a old begun start → IsKin o a p begun new
-    → (Rose (leg_faults o a p begun) (leg_faults o a p new) → ⊥) → IsWhole o a p old new start
+    → (AnyRose o a p begun new → ⊥) → IsWhole o a p old new start

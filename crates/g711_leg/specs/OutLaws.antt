@@ -6,11 +6,12 @@ use Rattle.std.proofs.lemmas.Grind.{flat_map-append}
 use Rattle.std.proofs.Math.Seq.{take-append-add, take-length}
 use Rattle.std.specs.Io.KnownBytes.{Appends}
 use Rattle.std.proofs.KnownBytes.{Appends-nil, Appends-trans}
+use Rattle.gate_base.specs.Faults.{HasCause, Rose}
 use Rattle.gate_io.specs.Flow.{AppendsPart}
 use Rattle.gate_io.specs.Links.{GoesTo, LinkLog, Sends, with_sent}
 use Rattle.gate_io.specs.declared.link.Link as link
 use Rattle.gate_io.specs.declared.sink.Sink as sink
-use Rattle.g711_leg.specs.Legs.{Goes, GoesBy, GoesPart, OutState, SendsAll, Start, blocks_with, codes_in, codes_of, codes_with, packet_of, packets_in, packets_with, rest_of, whole_blocks}
+use Rattle.g711_leg.specs.Legs.{Goes, GoesBy, GoesPart, OutCause, OutState, SendsAll, Start, blocks_with, codes_in, codes_of, codes_with, packet_of, packets_in, packets_with, rest_of, whole_blocks}
 use Rattle.g711_leg.specs.BlockLaws.{codes_of_packets, length_codes, packets_append, rest_none, rest_one, rest_split, same_packets, whole_none, whole_one, whole_split}
 
 -- ---- the link's log
@@ -249,3 +250,21 @@ pub was_whole : {A P T E : Type 0} (a : sink.Ghosts A) (p : link.Ghosts P) (old 
     → is_err result ≡ false → GoesBy a p old new result octets → Goes a p old new octets
 was_whole a p old new (Ok x) octets test h = h
 was_whole a p old new (Err e) octets test h = absurd (cc)
+
+-- ---- the counts
+
+-- the link failed
+pub link_failed : {A P T E : Type 0} (a : sink.Ghosts A) (p : link.Ghosts P) (old new : OutState A P) (result : Result T E) → a.faults old.au ≤ a.faults new.au
+    → HasCause (p.faults old.link) (p.faults new.link) result → OutCause a p old new result
+link_failed a p old new (Ok x) later cause = record { au = later; link = cause.later; failed = tt }
+link_failed a p old new (Err e) later cause = record { au = later; link = cause.later; failed = inr cause.failed }
+
+-- a fault at the end of a time in which no count fell
+pub failed_last : {A P T E : Type 0} (a : sink.Ghosts A) (p : link.Ghosts P) (old mid new : OutState A P) (result : Result T E) → is_err result ≡ true
+    → a.faults old.au ≤ a.faults mid.au → p.faults old.link ≤ p.faults mid.link → OutCause a p mid new result
+    → Rose (a.faults old.au) (a.faults new.au) ⊎ Rose (p.faults old.link) (p.faults new.link)
+failed_last a p old mid new (Ok x) test au link cause = absurd (cc)
+failed_last a p old mid new (Err e) test au link cause = elim cause.failed [
+  | inl rose ↦ inl (omega (arith, au))
+  | inr rose ↦ inr (omega (arith, link))
+]

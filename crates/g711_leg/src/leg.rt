@@ -1,9 +1,9 @@
 // A speaker with what goes out behind it.
-ghost use Rattle.std.specs.Prelude.{◌≡◌, true, false, is_ok, []};
+ghost use Rattle.std.specs.Prelude.{◌≡◌, true, false, is_ok, OnErr, []};
 ghost use Rattle.gate_base.specs.Faults.{HasCause};
 ghost use Rattle.gate_io.specs.Flow.{Gives};
 ghost use Rattle.g711_leg.specs.LegLaws.{leg_after, same_leg};
-ghost use Rattle.g711_leg.specs.Legs.{GoesOn, IsKin, au_head, leg_faults};
+ghost use Rattle.g711_leg.specs.Legs.{AnyRose, GoesOn, IsKin, NoneFell, au_head, leg_faults};
 
 use crate::law::Law;
 use crate::out::Out;
@@ -91,7 +91,8 @@ impl<O: Sink, A: Sink, P: Link> Leg<O, A, P> {
 impl<O: Sink, A: Sink, P: Link> Leg<O, A, P> {
     fn give_on(&mut self, from: &[u8]) -> Result<(), Failed>
         ensures given { Gives (O.given self.old.speaker) (O.given self.new.speaker) result from.now }
-        ensures cause { HasCause (leg_faults O.Sink A.Sink P.Link self.old) (leg_faults O.Sink A.Sink P.Link self.new) result }
+        ensures later { NoneFell O.Sink A.Sink P.Link self.old self.new }
+        ensures failed { OnErr result (AnyRose O.Sink A.Sink P.Link self.old self.new) }
         ensures called { self.new.called ≡ self.old.called }
         ensures ready { self.new.ready ≡ self.old.ready }
         ensures start { self.new.start ≡ self.old.start }
@@ -127,6 +128,7 @@ impl<O: Sink, A: Sink, P: Link> Sink for Leg<O, A, P> {
         ensures cause { HasCause (leg_faults O.Sink A.Sink P.Link self.old) (leg_faults O.Sink A.Sink P.Link self.new) result }
         ensures kin { IsKin O.Sink A.Sink P.Link self.old self.new }
 
+        ensures failed { OnErr result (AnyRose O.Sink A.Sink P.Link self.old self.new) }
         ensures alone { self.old.ready ≡ false → self.new ≡ record self.old { speaker = self.new.speaker } }
         ensures goes { self.old.ready ≡ true → GoesOn O.Sink A.Sink P.Link self.old self.new result from.now }
     {

@@ -2,7 +2,7 @@
 ghost use Rattle.std.specs.Prelude.{◌≡◌, [], ◌∷◌};
 ghost use Rattle.gate_base.specs.Faults.{HasCause};
 ghost use Rattle.gate_io.specs.Flow.{Gives};
-ghost use Rattle.g711_leg.specs.Legs.{GoesBy, au_head, out_faults, packet_of};
+ghost use Rattle.g711_leg.specs.Legs.{GoesBy, OutCause, au_head, packet_of};
 
 use crate::au::au_head;
 use crate::codes::codes_of;
@@ -99,7 +99,7 @@ impl<A: Sink, P: Link> Out<A, P> {
     /// Where a part fails, the rest of the octets is lost, and what waits is of no use.
     pub(crate) fn take(&mut self, from: &[u8]) -> Result<(), Failed>
         ensures goes { GoesBy A.Sink P.Link self.old self.new result from.now }
-        ensures cause { HasCause (out_faults A.Sink P.Link self.old) (out_faults A.Sink P.Link self.new) result }
+        ensures cause { OutCause A.Sink P.Link self.old self.new result }
     {
         let _waiting = self.filled;
         for octet in from {
@@ -112,7 +112,7 @@ impl<A: Sink, P: Link> Out<A, P> {
 
     fn take_octet(&mut self, octet: u8) -> Result<(), Failed>
         ensures goes { GoesBy A.Sink P.Link self.old self.new result (octet ∷ []) }
-        ensures cause { HasCause (out_faults A.Sink P.Link self.old) (out_faults A.Sink P.Link self.new) result }
+        ensures cause { OutCause A.Sink P.Link self.old self.new result }
     {
         self.block[self.filled] = octet;
         if self.filled < 319 {
@@ -128,7 +128,7 @@ impl<A: Sink, P: Link> Out<A, P> {
     fn send_block(&mut self, block: &[u8; 320]) -> Result<(), Failed>
         requires { self.old.rest ≡ [] }
         ensures goes { GoesBy A.Sink P.Link self.old self.new result block.now }
-        ensures cause { HasCause (out_faults A.Sink P.Link self.old) (out_faults A.Sink P.Link self.new) result }
+        ensures cause { OutCause A.Sink P.Link self.old self.new result }
     {
         let codes = codes_of(self.law, block);
         let packet = packet_of(
