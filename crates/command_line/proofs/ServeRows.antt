@@ -10,7 +10,7 @@ use Rattle.clap.specs.Faults.{check_fault}
 use Rattle.clap.specs.Takes.{is_given}
 use Rattle.command_line.specs.Table.{serve_shape}
 use Rattle.command_line.specs.Plain.{ServeOnce, ServeOption, is_said, named, place_of, serve_name, served, texts_said, value_of}
-use Rattle.command_line.specs.Plain.{ring, delay, seed, ticks, report, ssrc, sequence, stamp, reply, speaker, microphone, journals}
+use Rattle.command_line.specs.Plain.{ring, delay, seed, ticks, report, ssrc, sequence, stamp, elastic, reply, speaker, microphone, journals}
 use Rattle.command_line.specs.Lines.{Said, ServeTexts, are_links, options_of, serve_line, serve_texts, text_of, texts_of}
 use Rattle.command_line.specs.declared.line.ServeOptions.{ServeOptions}
 use Rattle.command_line.specs.declared.line.Line.TheVariants.{Serve}
@@ -29,6 +29,7 @@ is_required report = false
 is_required ssrc = false
 is_required sequence = false
 is_required stamp = false
+is_required elastic = false
 is_required reply = true
 is_required speaker = true
 is_required microphone = true
@@ -43,6 +44,7 @@ known report = record { dashes = refl; long = refl; found = refl; known = refl; 
 known ssrc = record { dashes = refl; long = refl; found = refl; known = refl; same = refl }
 known sequence = record { dashes = refl; long = refl; found = refl; known = refl; same = refl }
 known stamp = record { dashes = refl; long = refl; found = refl; known = refl; same = refl }
+known elastic = record { dashes = refl; long = refl; found = refl; known = refl; same = refl }
 known reply = record { dashes = refl; long = refl; found = refl; known = refl; same = refl }
 known speaker = record { dashes = refl; long = refl; found = refl; known = refl; same = refl }
 known microphone = record { dashes = refl; long = refl; found = refl; known = refl; same = refl }
@@ -86,6 +88,7 @@ not_listen report = refl
 not_listen ssrc = refl
 not_listen sequence = refl
 not_listen stamp = refl
+not_listen elastic = refl
 not_listen reply = refl
 not_listen speaker = refl
 not_listen microphone = refl
@@ -132,17 +135,18 @@ links_found os ws = ap (λ (o : Option Row). unwrap_or (option_map (λ (r : Row)
 texts_found : (os : List (Text × Text)) (ws : List Text) → serve_texts (option_rows os ++ row (codes "listen") ws ∷ []) ≡ texts_said os
 texts_found os ws =
     let rows = option_rows os ++ row (codes "listen") ws ∷ [] in
-    ap (λ (x : Option Text). text_set (x) (first_of (codes "delay") rows) (first_of (codes "seed") rows) (first_of (codes "ticks") rows) (first_of (codes "report") rows) (first_of (codes "ssrc") rows) (first_of (codes "sequence") rows) (first_of (codes "stamp") rows)) (first_found (codes "ring") os ws refl)
-    ∙ ap (λ (x : Option Text). text_set (value_of (codes "ring") os) (x) (first_of (codes "seed") rows) (first_of (codes "ticks") rows) (first_of (codes "report") rows) (first_of (codes "ssrc") rows) (first_of (codes "sequence") rows) (first_of (codes "stamp") rows)) (first_found (codes "delay") os ws refl)
-    ∙ ap (λ (x : Option Text). text_set (value_of (codes "ring") os) (value_of (codes "delay") os) (x) (first_of (codes "ticks") rows) (first_of (codes "report") rows) (first_of (codes "ssrc") rows) (first_of (codes "sequence") rows) (first_of (codes "stamp") rows)) (first_found (codes "seed") os ws refl)
-    ∙ ap (λ (x : Option Text). text_set (value_of (codes "ring") os) (value_of (codes "delay") os) (value_of (codes "seed") os) (x) (first_of (codes "report") rows) (first_of (codes "ssrc") rows) (first_of (codes "sequence") rows) (first_of (codes "stamp") rows)) (first_found (codes "ticks") os ws refl)
-    ∙ ap (λ (x : Option Text). text_set (value_of (codes "ring") os) (value_of (codes "delay") os) (value_of (codes "seed") os) (value_of (codes "ticks") os) (x) (first_of (codes "ssrc") rows) (first_of (codes "sequence") rows) (first_of (codes "stamp") rows)) (first_found (codes "report") os ws refl)
-    ∙ ap (λ (x : Option Text). text_set (value_of (codes "ring") os) (value_of (codes "delay") os) (value_of (codes "seed") os) (value_of (codes "ticks") os) (value_of (codes "report") os) (x) (first_of (codes "sequence") rows) (first_of (codes "stamp") rows)) (first_found (codes "ssrc") os ws refl)
-    ∙ ap (λ (x : Option Text). text_set (value_of (codes "ring") os) (value_of (codes "delay") os) (value_of (codes "seed") os) (value_of (codes "ticks") os) (value_of (codes "report") os) (value_of (codes "ssrc") os) (x) (first_of (codes "stamp") rows)) (first_found (codes "sequence") os ws refl)
-    ∙ ap (λ (x : Option Text). text_set (value_of (codes "ring") os) (value_of (codes "delay") os) (value_of (codes "seed") os) (value_of (codes "ticks") os) (value_of (codes "report") os) (value_of (codes "ssrc") os) (value_of (codes "sequence") os) (x)) (first_found (codes "stamp") os ws refl)
+    ap (λ (x : Option Text). text_set x (first_of (codes "delay") rows) (first_of (codes "seed") rows) (first_of (codes "ticks") rows) (first_of (codes "report") rows) (first_of (codes "ssrc") rows) (first_of (codes "sequence") rows) (first_of (codes "stamp") rows) (first_of (codes "elastic") rows)) (first_found (codes "ring") os ws refl)
+    ∙ ap (λ (x : Option Text). text_set (value_of (codes "ring") os) x (first_of (codes "seed") rows) (first_of (codes "ticks") rows) (first_of (codes "report") rows) (first_of (codes "ssrc") rows) (first_of (codes "sequence") rows) (first_of (codes "stamp") rows) (first_of (codes "elastic") rows)) (first_found (codes "delay") os ws refl)
+    ∙ ap (λ (x : Option Text). text_set (value_of (codes "ring") os) (value_of (codes "delay") os) x (first_of (codes "ticks") rows) (first_of (codes "report") rows) (first_of (codes "ssrc") rows) (first_of (codes "sequence") rows) (first_of (codes "stamp") rows) (first_of (codes "elastic") rows)) (first_found (codes "seed") os ws refl)
+    ∙ ap (λ (x : Option Text). text_set (value_of (codes "ring") os) (value_of (codes "delay") os) (value_of (codes "seed") os) x (first_of (codes "report") rows) (first_of (codes "ssrc") rows) (first_of (codes "sequence") rows) (first_of (codes "stamp") rows) (first_of (codes "elastic") rows)) (first_found (codes "ticks") os ws refl)
+    ∙ ap (λ (x : Option Text). text_set (value_of (codes "ring") os) (value_of (codes "delay") os) (value_of (codes "seed") os) (value_of (codes "ticks") os) x (first_of (codes "ssrc") rows) (first_of (codes "sequence") rows) (first_of (codes "stamp") rows) (first_of (codes "elastic") rows)) (first_found (codes "report") os ws refl)
+    ∙ ap (λ (x : Option Text). text_set (value_of (codes "ring") os) (value_of (codes "delay") os) (value_of (codes "seed") os) (value_of (codes "ticks") os) (value_of (codes "report") os) x (first_of (codes "sequence") rows) (first_of (codes "stamp") rows) (first_of (codes "elastic") rows)) (first_found (codes "ssrc") os ws refl)
+    ∙ ap (λ (x : Option Text). text_set (value_of (codes "ring") os) (value_of (codes "delay") os) (value_of (codes "seed") os) (value_of (codes "ticks") os) (value_of (codes "report") os) (value_of (codes "ssrc") os) x (first_of (codes "stamp") rows) (first_of (codes "elastic") rows)) (first_found (codes "sequence") os ws refl)
+    ∙ ap (λ (x : Option Text). text_set (value_of (codes "ring") os) (value_of (codes "delay") os) (value_of (codes "seed") os) (value_of (codes "ticks") os) (value_of (codes "report") os) (value_of (codes "ssrc") os) (value_of (codes "sequence") os) x (first_of (codes "elastic") rows)) (first_found (codes "stamp") os ws refl)
+    ∙ ap (λ (x : Option Text). text_set (value_of (codes "ring") os) (value_of (codes "delay") os) (value_of (codes "seed") os) (value_of (codes "ticks") os) (value_of (codes "report") os) (value_of (codes "ssrc") os) (value_of (codes "sequence") os) (value_of (codes "stamp") os) x) (first_found (codes "elastic") os ws refl)
   where
-    text_set : (a b c d e f g h : Option Text) → ServeTexts
-    text_set a b c d e f g h = record { ring = a; delay = b; seed = c; ticks = d; report = e; ssrc = f; sequence = g; stamp = h }
+    text_set : (a b c d e f g h k : Option Text) → ServeTexts
+    text_set a b c d e f g h k = record { ring = a; delay = b; seed = c; ticks = d; report = e; ssrc = f; sequence = g; stamp = h; elastic = k }
 
 place_found : (name : Text) (os : List (Text × Text)) (ws : List Text) → bytes_eq (codes "listen") name ≡ false → text_of name (option_rows os ++ row (codes "listen") ws ∷ []) ≡ place_of name os
 place_found name os ws other = ap (λ (o : Option Text). unwrap_or o []) (first_found name os ws other)

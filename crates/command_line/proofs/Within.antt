@@ -1,6 +1,6 @@
 -- What a line says is in its ranges.
-use Rattle.std.proofs.Common.{◌≡◌, ℕ, suc, ◌-◌, ◌^◌, ◌≤◌, ◌&&◌, nat_le, min, cond, Bool, true, false, List, length, Option, Some, None, refl, sym, subst, codes, arith, option_map}
-use Rattle.std.specs.Prelude.{option_and_then}
+use Rattle.std.proofs.Common.{◌≡◌, ℕ, zero, suc, inl, inr, ◌-◌, ◌^◌, ◌≤◌, ◌&&◌, nat_le, min, cond, Bool, true, false, List, length, Option, Some, None, refl, sym, subst, codes, arith, option_map}
+use Rattle.std.specs.Prelude.{◌⊎◌, ◌==◌, option_and_then}
 use Rattle.std.specs.Str.{bytes_eq}
 use Rattle.std.specs.Str.Parse.{digits_value}
 use Rattle.std.proofs.lemmas.Bool.Decides.{nat_tests}
@@ -8,7 +8,7 @@ use Rattle.clap.specs.Walk.{Row, first_of}
 use Rattle.clap.specs.Simple.{subcommand_of}
 use Rattle.command_line.specs.Table.{gate_app}
 use Rattle.command_line.specs.Values.{is_number, number_in, number_or, seed_or}
-use Rattle.command_line.specs.Lines.{Said, Text, ServeTexts, are_links, command_of, files_line, files_of, inputs_of, is_flagged, is_taken, line_in, line_of, make_of, options_of, serve_line, serve_of, serve_texts, simulate_of, render_of, verify_of, text_of, texts_of, voice_of}
+use Rattle.command_line.specs.Lines.{Said, Text, ServeTexts, are_links, command_of, files_line, files_of, inputs_of, is_flagged, is_taken, line_in, most_elastic, line_of, make_of, options_of, serve_line, serve_of, serve_texts, simulate_of, render_of, verify_of, text_of, texts_of, voice_of}
 use Rattle.command_line.specs.Ranges.{AreOptions, IsCommand, IsServed, IsWithin}
 use Rattle.command_line.specs.declared.line.Command.{Command}
 use Rattle.command_line.specs.declared.line.Command.TheVariants.{Simulate, Decode, Encode, Render, Verify, Make}
@@ -59,12 +59,15 @@ or_in_range low high default (Some ds) n a b e = in_range low high ds n e
 
 -- ---- the options of serve
 
-abbrev built : ℕ → ℕ → List ℕ → ℕ → ℕ → ℕ → ℕ → ℕ → Option ServeOptions
-built ring delay seed ticks report ssrc sequence stamp =
-    Some (record { ring = ring; delay = delay; seed = seed; ticks = ticks; report = report; ssrc = ssrc; sequence = sequence; stamp = stamp })
+abbrev built : ℕ → ℕ → List ℕ → ℕ → ℕ → ℕ → ℕ → ℕ → ℕ → Option ServeOptions
+built ring delay seed ticks report ssrc sequence stamp elastic =
+    Some (record { ring = ring; delay = delay; seed = seed; ticks = ticks; report = report; ssrc = ssrc; sequence = sequence; stamp = stamp; elastic = elastic })
+
+abbrev after_stamp : ServeTexts → ℕ → ℕ → List ℕ → ℕ → ℕ → ℕ → ℕ → ℕ → Option ServeOptions
+after_stamp t ring delay seed ticks report ssrc sequence stamp = option_and_then (built ring delay seed ticks report ssrc sequence stamp) (number_or 0 (most_elastic ring) 0 t.elastic)
 
 abbrev after_sequence : ServeTexts → ℕ → ℕ → List ℕ → ℕ → ℕ → ℕ → ℕ → Option ServeOptions
-after_sequence t ring delay seed ticks report ssrc sequence = option_and_then (built ring delay seed ticks report ssrc sequence) (number_or 0 4294967295 0 t.stamp)
+after_sequence t ring delay seed ticks report ssrc sequence = option_and_then (after_stamp t ring delay seed ticks report ssrc sequence) (number_or 0 4294967295 0 t.stamp)
 
 abbrev after_ssrc : ServeTexts → ℕ → ℕ → List ℕ → ℕ → ℕ → ℕ → Option ServeOptions
 after_ssrc t ring delay seed ticks report ssrc = option_and_then (after_sequence t ring delay seed ticks report ssrc) (number_or 0 65535 0 t.sequence)
@@ -94,14 +97,16 @@ options_within t o e =
     let r = and_then_some (number_or 1 65535 250 t.report) (after_report t a.0 b.0 s.0 n.0) o n.2 in
     let i = and_then_some (number_or 0 4294967295 1 t.ssrc) (after_ssrc t a.0 b.0 s.0 n.0 r.0) o r.2 in
     let q = and_then_some (number_or 0 65535 0 t.sequence) (after_sequence t a.0 b.0 s.0 n.0 r.0 i.0) o i.2 in
-    let p = and_then_some (number_or 0 4294967295 0 t.stamp) (built a.0 b.0 s.0 n.0 r.0 i.0 q.0) o q.2 in
+    let p = and_then_some (number_or 0 4294967295 0 t.stamp) (after_stamp t a.0 b.0 s.0 n.0 r.0 i.0 q.0) o q.2 in
+    let k = and_then_some (number_or 0 (most_elastic a.0) 0 t.elastic) (built a.0 b.0 s.0 n.0 r.0 i.0 q.0 p.0) o p.2 in
     let last = 2 ^ a.0 - 1 in
     let least : min 3 last ≤ last = omega arith in
     let ring = or_in_range 0 10 6 t.ring a.0 (omega arith) (omega arith) a.1 in
     let delay = or_in_range 0 last (min 3 last) t.delay b.0 (omega arith) least b.1 in
     let ticks = or_in_range 1 16000000 15000 t.ticks n.0 (omega arith) (omega arith) n.1 in
     let report = or_in_range 1 65535 250 t.report r.0 (omega arith) (omega arith) r.1 in
-    let options : ServeOptions = record { ring = a.0; delay = b.0; seed = s.0; ticks = n.0; report = r.0; ssrc = i.0; sequence = q.0; stamp = p.0 } in
+    let elastic = or_in_range 0 (most_elastic a.0) 0 t.elastic k.0 (omega arith) (omega arith) k.1 in
+    let options : ServeOptions = record { ring = a.0; delay = b.0; seed = s.0; ticks = n.0; report = r.0; ssrc = i.0; sequence = q.0; stamp = p.0; elastic = k.0 } in
     let fit : AreOptions options = record {
       ring_fits = ring.1;
       delay_fits = delay.1;
@@ -109,9 +114,22 @@ options_within t o e =
       ticks_fit = ticks.1;
       has_report = report.0;
       report_fits = report.1;
+      elastic_fits = (most_few a.0 k.0 elastic.1).0;
+      elastic_slots = (most_few a.0 k.0 elastic.1).1;
     } in
-    some_fits options o p.2 fit
+    some_fits options o k.2 fit
   where
+    not_none : (ring : ℕ) → (ring == 0) ≡ false → 1 ≤ ring
+    not_none zero e = cc
+    not_none (suc r) e = omega arith
+
+    few_by : (b : Bool) (ring n : ℕ) → (ring == 0) ≡ b → n ≤ cond b 0 15 → (n ≤ 15) × ((n ≡ 0) ⊎ (1 ≤ ring))
+    few_by true ring n is le = (omega (arith, le), inl (omega (arith, le)))
+    few_by false ring n is le = (le, inr (not_none ring is))
+
+    most_few : (ring n : ℕ) → n ≤ most_elastic ring → (n ≤ 15) × ((n ≡ 0) ⊎ (1 ≤ ring))
+    most_few ring n le = few_by (ring == 0) ring n refl le
+
     some_fits : (x y : ServeOptions) → ◌≡◌ {A = Option ServeOptions} (Some x) (Some y) → AreOptions x → AreOptions y
     some_fits x y e h = let same : x ≡ y = cc in subst AreOptions same h
 

@@ -106,6 +106,11 @@ pub record ServeTexts : Type 0 where
   pub ssrc : Option Text
   pub sequence : Option Text
   pub stamp : Option Text
+  pub elastic : Option Text
+
+-- how many beats a player may let pass at most, where the ring has 2 ^ ring frames
+abbrev pub most_elastic : ℕ → ℕ
+most_elastic ring = if ring == 0 then 0 else 15
 
 -- the options of serve, where each value is in its range
 unfoldable pub options_of : ServeTexts → Option ServeOptions
@@ -118,7 +123,8 @@ options_of said = do
   ssrc ← number_or 0 4294967295 1 said.ssrc
   sequence ← number_or 0 65535 0 said.sequence
   stamp ← number_or 0 4294967295 0 said.stamp
-  Some (record { ring = ring; delay = delay; seed = seed; ticks = ticks; report = report; ssrc = ssrc; sequence = sequence; stamp = stamp })
+  elastic ← number_or 0 (most_elastic ring) 0 said.elastic
+  Some (record { ring = ring; delay = delay; seed = seed; ticks = ticks; report = report; ssrc = ssrc; sequence = sequence; stamp = stamp; elastic = elastic })
 
 abbrev pub serve_texts : List Row → ServeTexts
 serve_texts rows = record {
@@ -130,6 +136,7 @@ serve_texts rows = record {
   ssrc = first_of (codes "ssrc") rows;
   sequence = first_of (codes "sequence") rows;
   stamp = first_of (codes "stamp") rows;
+  elastic = first_of (codes "elastic") rows;
 }
 
 -- a line has one link or more, and at most 64

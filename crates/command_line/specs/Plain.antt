@@ -118,6 +118,7 @@ pub data ServeOption : Type 0 where
   ssrc : ServeOption
   sequence : ServeOption
   stamp : ServeOption
+  elastic : ServeOption
   reply : ServeOption
   speaker : ServeOption
   microphone : ServeOption
@@ -132,6 +133,7 @@ serve_name report = codes "report"
 serve_name ssrc = codes "ssrc"
 serve_name sequence = codes "sequence"
 serve_name stamp = codes "stamp"
+serve_name elastic = codes "elastic"
 serve_name reply = codes "reply"
 serve_name speaker = codes "speaker"
 serve_name microphone = codes "microphone"
@@ -172,6 +174,7 @@ texts_said os = record {
   ssrc = value_of (codes "ssrc") os;
   sequence = value_of (codes "sequence") os;
   stamp = value_of (codes "stamp") os;
+  elastic = value_of (codes "elastic") os;
 }
 
 -- the value of an option that has to be said

@@ -1,5 +1,5 @@
 -- The ranges of what a line says.
-use Rattle.std.specs.Prelude.{◌≡◌, ℕ, ◌-◌, ◌^◌, ◌≤◌, length}
+use Rattle.std.specs.Prelude.{◌≡◌, ℕ, ◌-◌, ◌^◌, ◌≤◌, ◌⊎◌, length}
 use Rattle.command_line.specs.Said.{ServeSaid}
 use Rattle.command_line.specs.Lines.{Said}
 use Rattle.command_line.specs.declared.line.Command.{Command}
@@ -31,6 +31,8 @@ pub record AreOptions (options : ServeOptions) : Type 0 where
   pub ticks_fit : options.ticks ≤ 16000000
   pub has_report : 1 ≤ options.report
   pub report_fits : options.report ≤ 65535
+  pub elastic_fits : options.elastic ≤ 15
+  pub elastic_slots : (options.elastic ≡ 0) ⊎ (1 ≤ options.ring)
 
 pub record IsServed (said : ServeSaid) : Type 0 where
   pub options_fit : AreOptions said.options

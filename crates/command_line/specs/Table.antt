@@ -52,7 +52,7 @@ make_shape = shape_with (codes "make") (place_rule (codes "seed") ∷ place_rule
 abbrev pub serve_shape : Shape
 serve_shape = shape_with (codes "serve")
     (option_rule false (codes "ring") ∷ option_rule false (codes "delay") ∷ option_rule false (codes "seed") ∷ option_rule false (codes "ticks")
-    ∷ option_rule false (codes "report") ∷ option_rule false (codes "ssrc") ∷ option_rule false (codes "sequence") ∷ option_rule false (codes "stamp")
+    ∷ option_rule false (codes "report") ∷ option_rule false (codes "ssrc") ∷ option_rule false (codes "sequence") ∷ option_rule false (codes "stamp") ∷ option_rule false (codes "elastic")
     ∷ option_rule true (codes "reply") ∷ option_rule true (codes "speaker") ∷ option_rule true (codes "microphone") ∷ option_rule true (codes "journals")
     ∷ places_rule (codes "listen") ∷ [])
 

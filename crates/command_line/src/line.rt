@@ -37,6 +37,8 @@ pub struct ServeOptions {
     pub sequence: u16,
     /// The timestamp of the first packet that is sent.
     pub stamp: u32,
+    /// Beats that the player may let pass at the same number: 0 to 15, and 0 where the ring has one frame.
+    pub elastic: u32,
 }
 
 /// A line over files: its command, and the words that name its places.

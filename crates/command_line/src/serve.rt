@@ -1,7 +1,7 @@
 // Lines of `serve`.
 ghost use Rattle.std.specs.Prelude.{◌≡◌, ◌≤◌, ◌-◌, ◌^◌, IfOk, IsErrOf, None, Some, codes};
 ghost use Rattle.clap.specs.Words.{found_of, rows_of};
-ghost use Rattle.command_line.specs.Lines.{are_links, options_of, serve_line, serve_of, serve_texts, texts_of};
+ghost use Rattle.command_line.specs.Lines.{are_links, most_elastic, options_of, serve_line, serve_of, serve_texts, texts_of};
 
 use crate::found::{count_at, number_at, seed_at, text_at, texts_at};
 use crate::line::{Line, Refusal, ServeLine, ServeOptions};
@@ -10,6 +10,13 @@ use std::alloc::{AllocError, Global};
 
 /// The most links of a line.
 const MOST_LINKS: usize = 64;
+
+// How many beats a player may let pass at most.
+fn most_elastic(ring: u64) -> u64
+    ensures { result ≡ most_elastic ring }
+{
+    if ring == 0 { 0 } else { 15 }
+}
 
 // One less than the number of frames of a ring.
 fn last_of(ring: u64) -> u32
@@ -32,6 +39,7 @@ fn options_of(matches: &ArgMatches<'_>) -> Option<ServeOptions>
     let ssrc = number_at(matches, "ssrc", 0, 4_294_967_295, 1)?;
     let sequence = number_at(matches, "sequence", 0, 65535, 0)?;
     let stamp = number_at(matches, "stamp", 0, 4_294_967_295, 0)?;
+    let elastic = number_at(matches, "elastic", 0, most_elastic(ring), 0)?;
     Some(ServeOptions {
         ring: ring as u32,
         delay: delay as u32,
@@ -41,6 +49,7 @@ fn options_of(matches: &ArgMatches<'_>) -> Option<ServeOptions>
         ssrc: ssrc as u32,
         sequence: sequence as u16,
         stamp: stamp as u32,
+        elastic: elastic as u32,
     })
 }
 

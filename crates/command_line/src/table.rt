@@ -124,6 +124,7 @@ fn serve<'a>(alloc: Global) -> Result<Command<'a>, AllocError>
     let command = with_arg(command, option_of(alloc, "ssrc", false))?;
     let command = with_arg(command, option_of(alloc, "sequence", false))?;
     let command = with_arg(command, option_of(alloc, "stamp", false))?;
+    let command = with_arg(command, option_of(alloc, "elastic", false))?;
     let command = with_arg(command, option_of(alloc, "reply", true))?;
     let command = with_arg(command, option_of(alloc, "speaker", true))?;
     let command = with_arg(command, option_of(alloc, "microphone", true))?;

@@ -197,6 +197,7 @@ const DEFAULTS: ServeOptions = ServeOptions {
     ssrc: 1,
     sequence: 0,
     stamp: 0,
+    elastic: 0,
 };
 
 const SAID: ServeOptions = ServeOptions {
@@ -208,6 +209,7 @@ const SAID: ServeOptions = ServeOptions {
     ssrc: 4_294_967_295,
     sequence: 65535,
     stamp: 4_294_967_295,
+    elastic: 15,
 };
 
 #[test]
@@ -228,9 +230,12 @@ fn a_line_of_serve_says_its_options(rt: HostRuntime) -> Result<(), Fail> {
     for (before, wanted) in [
         ("", DEFAULTS),
         ("--ring 1", small),
-        ("--ring 0 --delay 0 --ticks 1 --report 1 --ssrc 0", least),
         (
-            "--stamp 4294967295 --sequence 65535 --ssrc 4294967295 --report 65535 --ticks 16000000 --seed SEED --delay 1023 --ring 10",
+            "--ring 0 --delay 0 --ticks 1 --report 1 --ssrc 0 --elastic 0",
+            least,
+        ),
+        (
+            "--elastic 15 --stamp 4294967295 --sequence 65535 --ssrc 4294967295 --report 65535 --ticks 16000000 --seed SEED --delay 1023 --ring 10",
             SAID,
         ),
     ] {
@@ -253,6 +258,8 @@ fn a_value_out_of_its_range_is_no_line(rt: HostRuntime) -> Result<(), Fail> {
         "--ssrc 4294967296",
         "--sequence 65536",
         "--stamp 4294967296",
+        "--elastic 16",
+        "--elastic 1 --ring 0",
         "--ring 6 --ring 6",
         "--ring +6",
         "--ring ''",

@@ -1,5 +1,5 @@
 -- The lines of the notes.
-use Rattle.std.specs.Prelude.{ℕ, ◌==◌, List, [], ◌∷◌, ◌++◌, codes, decimal, if◌then◌else◌}
+use Rattle.std.specs.Prelude.{ℕ, ◌==◌, ◌&&◌, List, [], ◌∷◌, ◌++◌, codes, decimal, if◌then◌else◌}
 use Rattle.std.specs.List.{flat_map}
 use Rattle.playout.specs.declared.reply.FileReply.{FileReply}
 use Rattle.playout.specs.declared.reply.FileReply.TheVariants.{Accepted, Duplicate, Late, Beyond}
@@ -62,9 +62,17 @@ own_line who end.Empty = []
 own_line who (end.Stranger ssrc held) = decimal who ++ (counted (codes " stranger ") ssrc ++ (counted (codes " ") held ++ newline))
 own_line who (end.Filed n replies) = []
 
+-- how many ticks there were, and what they and the other beats played
+abbrev pub ticks_line : PlayTally → List ℕ
+ticks_line t = counted (codes "ticks ") t.ticks ++ (counted (codes " frames ") t.frames ++ (counted (codes " erasures ") t.erasures ++ (counted (codes " idle ") t.idle ++ newline)))
+
+-- how many beats let a number pass, and how many numbers were left out, where there are any
+abbrev pub held_line : PlayTally → List ℕ
+held_line t = if (t.held == 0) && (t.retired == 0) then [] else counted (codes "held ") t.held ++ (counted (codes " retired ") t.retired ++ newline)
+
 -- what the beats resulted in
-abbrev pub play_line : PlayTally → List ℕ
-play_line t = counted (codes "ticks ") t.ticks ++ (counted (codes " frames ") t.frames ++ (counted (codes " erasures ") t.erasures ++ (counted (codes " idle ") t.idle ++ newline)))
+abbrev pub play_lines : PlayTally → List ℕ
+play_lines t = ticks_line t ++ held_line t
 
 -- how the frames were answered
 abbrev pub frame_words : Tally → List ℕ
@@ -80,7 +88,7 @@ tally_line whose t = whose ++ (counted (codes " datagrams ") t.datagrams ++ (fra
 
 -- the summary of a run by its tallies
 abbrev pub tallies_text : PlayTally → Tally → List ℕ
-tallies_text plays tally = play_line plays ++ tally_line (codes "all") tally
+tallies_text plays tally = play_lines plays ++ tally_line (codes "all") tally
 
 -- the words of a fault, with its place
 abbrev pub fault_words : RecordFault → List ℕ

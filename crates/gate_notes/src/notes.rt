@@ -4,7 +4,7 @@ ghost use Rattle.std.specs.Io.KnownBytes.{Appends};
 ghost use Rattle.gate_base.specs.Faults.{HasCause, Rose};
 ghost use Rattle.gate_io.specs.Flow.{AppendsPart, Gives};
 ghost use Rattle.gate_notes.specs.Exchange.{GainedUnlessFault};
-ghost use Rattle.gate_notes.specs.Notes.{counted, fault_line, fault_words, frame_words, frames_line, illegal_line, legal_line, newline, other_words, play_line, reply_line, tally_line, usage_line};
+ghost use Rattle.gate_notes.specs.Notes.{counted, fault_line, fault_words, frame_words, frames_line, held_line, illegal_line, legal_line, newline, other_words, play_lines, reply_line, tally_line, ticks_line, usage_line};
 
 use crate::line::TextLine;
 use crate::status::Status;
@@ -86,9 +86,36 @@ pub fn give_reply<E: Sink>(
     }
 }
 
-/// Notes what the player's beats came to.
+/// Notes what the player's beats came to, and on a second line how many numbers were held and retired, where any was.
 pub fn give_plays<E: Sink>(tally: &PlayTally, notes: &mut E) -> Result<(), Failed>
-    ensures given { Gives (E.given notes.old) (E.given notes.new) result (play_line tally.now) }
+    ensures given { Gives (E.given notes.old) (E.given notes.new) result (play_lines tally.now) }
+    ensures cause { HasCause (E.faults notes.old) (E.faults notes.new) result }
+    ensures kin { E.kin notes.old notes.new }
+{
+    match give_ticks(tally, notes) {
+        Ok(()) => give_held(tally, notes),
+        Err(Failed) => Err(Failed),
+    }
+}
+
+// Notes how many beats let a number pass and how many numbers were left out, where there are any.
+fn give_held<E: Sink>(tally: &PlayTally, notes: &mut E) -> Result<(), Failed>
+    ensures given { Gives (E.given notes.old) (E.given notes.new) result (held_line tally.now) }
+    ensures cause { HasCause (E.faults notes.old) (E.faults notes.new) result }
+    ensures kin { E.kin notes.old notes.new }
+{
+    if tally.held == 0 && tally.retired == 0 {
+        return Ok(());
+    }
+    let mut line = TextLine::new();
+    line.counted("held ", tally.held);
+    line.counted(" retired ", tally.retired);
+    line.give(notes)
+}
+
+// Notes the ticks, and what they and the other beats played.
+fn give_ticks<E: Sink>(tally: &PlayTally, notes: &mut E) -> Result<(), Failed>
+    ensures given { Gives (E.given notes.old) (E.given notes.new) result (ticks_line tally.now) }
     ensures cause { HasCause (E.faults notes.old) (E.faults notes.new) result }
     ensures kin { E.kin notes.old notes.new }
 {
@@ -161,7 +188,7 @@ pub fn give_link<E: Sink>(link: u64, tally: &Tally, notes: &mut E) -> Result<(),
 
 /// Notes the summary of a run: what the player's beats came to, and all datagrams and frames.
 pub fn give_summary<E: Sink>(plays: &PlayTally, tally: &Tally, notes: &mut E) -> Result<(), Failed>
-    ensures given { Gives (E.given notes.old) (E.given notes.new) result (play_line plays.now ++ tally_line (codes "all") tally.now) }
+    ensures given { Gives (E.given notes.old) (E.given notes.new) result (play_lines plays.now ++ tally_line (codes "all") tally.now) }
     ensures cause { HasCause (E.faults notes.old) (E.faults notes.new) result }
     ensures kin { E.kin notes.old notes.new }
 {

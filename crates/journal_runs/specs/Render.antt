@@ -7,7 +7,7 @@ use Rattle.replay_check.specs.Render.{Renders, Stops, StopsReading}
 use Rattle.replay_check.specs.declared.rendering.RenderEnd.{RenderEnd}
 use Rattle.replay_check.specs.declared.rendering.RenderEnd.TheVariants as ends
 use Rattle.gate_notes.specs.Exchange.{Exchange, Noted, NotedPart, NotedUnlessFault}
-use Rattle.gate_notes.specs.Notes.{fault_line, play_line}
+use Rattle.gate_notes.specs.Notes.{fault_line, play_lines}
 use Rattle.gate_notes.specs.declared.status.Status.{Status}
 use Rattle.gate_notes.specs.declared.status.Status.TheVariants.{Done, Illegal, Usage, Input, ReadFault, WriteFault, LinkFault, OutOfMemory}
 
@@ -17,10 +17,10 @@ Played seed end x = Renders seed end x.input x.output x.output_now
 
 -- what each status says
 abbrev pub Ends : List ℕ → Status → Exchange → Type 0
-Ends seed Done x = (tally : PlayTally) × Played seed (ends.Done tally) x × Noted x (play_line tally)
+Ends seed Done x = (tally : PlayTally) × Played seed (ends.Done tally) x × Noted x (play_lines tally)
 Ends seed Input x = (f : RecordFault) × Played seed (ends.Refused f) x × NotedUnlessFault x (fault_line 0 f)
 Ends seed ReadFault x = Played seed ends.ReadFault x × Noted x []
-Ends seed WriteFault x = (Played seed ends.WriteFault x × Noted x []) ⊎ ((tally : PlayTally) × Played seed (ends.Done tally) x × NotedPart x (play_line tally))
+Ends seed WriteFault x = (Played seed ends.WriteFault x × Noted x []) ⊎ ((tally : PlayTally) × Played seed (ends.Done tally) x × NotedPart x (play_lines tally))
 Ends seed OutOfMemory x = ⊥
 Ends seed Usage x = ⊥
 Ends seed Illegal x = ⊥
@@ -36,7 +36,7 @@ abbrev pub StopsAt : List ℕ → Status → Exchange → Option (List ℕ) → 
 StopsAt seed Done x left = Unit {0}
 StopsAt seed Input x left = StopsReading seed x.input left x.output x.output_now
 StopsAt seed ReadFault x left = StopsReading seed x.input left x.output x.output_now
-StopsAt seed WriteFault x left = Stops seed ends.WriteFault x.input left x.output x.output_now ⊎ ((tally : PlayTally) × Played seed (ends.Done tally) x × NotedPart x (play_line tally))
+StopsAt seed WriteFault x left = Stops seed ends.WriteFault x.input left x.output x.output_now ⊎ ((tally : PlayTally) × Played seed (ends.Done tally) x × NotedPart x (play_lines tally))
 StopsAt seed OutOfMemory x left = Unit {0}
 StopsAt seed Usage x left = Unit {0}
 StopsAt seed Illegal x left = Unit {0}

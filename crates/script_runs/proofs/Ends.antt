@@ -20,7 +20,7 @@ use Rattle.gate_notes.specs.declared.stop.Stop.TheVariants as stop
 use Rattle.gate_notes.specs.declared.status.Status.{Status}
 use Rattle.gate_notes.specs.declared.status.Status.TheVariants.{Done, Illegal, Usage, Input, ReadFault, WriteFault, LinkFault, OutOfMemory}
 use Rattle.gate_notes.specs.Exchange.{Exchange, GainedUnlessFault}
-use Rattle.gate_notes.specs.Notes.{fault_line, play_line, tally_line}
+use Rattle.gate_notes.specs.Notes.{fault_line, play_lines, tally_line}
 use Rattle.script_runs.specs.TurnLines.{run_lines, summary}
 use Rattle.script_runs.specs.Playing.{Stands, end_text, ending, front_text}
 use Rattle.script_runs.specs.Ran.{Breaks, Finishes, Halts, Ran}
@@ -170,13 +170,13 @@ module _ (voice : Option (List ℕ)) (x : Exchange) (h : Heading) (mid : Option 
 
     -- the loop came to the end mark
     module _ (run : Run) (now noted : Option (List ℕ)) (ran : Ran h start last mid given now x.notes noted (Ok run) events turns) where
-      summed : play_line run.played ++ tally_line (codes "all") run.filed ≡ summary h.filers turns
-      summed = λ i. play_line (ran.counted.0 i) ++ tally_line (codes "all") (ran.counted.1 i)
+      summed : play_lines run.played ++ tally_line (codes "all") run.filed ≡ summary h.filers turns
+      summed = λ i. play_lines (ran.counted.0 i) ++ tally_line (codes "all") (ran.counted.1 i)
 
       end-is : end_text last ≡ ending voice
       end-is = is-ending voice (journal_of h turns) (items_of h turns) ran.played last (ran.goes_on voice [] [] [] stands)
 
-      pub finished : (status : Status) → Finishes status now x.output_now noted x.notes_now (end_text last) (play_line run.played ++ tally_line (codes "all") run.filed) → Ends voice status x
+      pub finished : (status : Status) → Finishes status now x.output_now noted x.notes_now (end_text last) (play_lines run.played ++ tally_line (codes "all") run.filed) → Ends voice status x
       finished Done (mark, text) = (
         h,
         events,
@@ -225,7 +225,7 @@ module _ (voice : Option (List ℕ)) (x : Exchange) (h : Heading) (mid : Option 
       finished LinkFault never = absurd never
       finished OutOfMemory never = absurd never
 
-      pub stops-behind : (status : Status) (left : Option (List ℕ)) → Finishes status now x.output_now noted x.notes_now (end_text last) (play_line run.played ++ tally_line (codes "all") run.filed) → Stops voice status x left
+      pub stops-behind : (status : Status) (left : Option (List ℕ)) → Finishes status now x.output_now noted x.notes_now (end_text last) (play_lines run.played ++ tally_line (codes "all") run.filed) → Stops voice status x left
       stops-behind Done left (mark, text) = tt
       stops-behind WriteFault left (inl (mark, same)) = inr (inr (record {
         head = h;

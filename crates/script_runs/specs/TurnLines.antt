@@ -5,7 +5,7 @@ use Rattle.playout.specs.declared.call.Call.{Call}
 use Rattle.playout.specs.declared.call.Call.TheVariants.{FileCall}
 use Rattle.playout.specs.History.{Entry, calls_of, calls}
 use Rattle.recorder.specs.Tallies.{call_replies, play_tally}
-use Rattle.gate_notes.specs.Notes.{own_line, play_line, reply_line, tally_line}
+use Rattle.gate_notes.specs.Notes.{own_line, play_lines, reply_line, tally_line}
 use Rattle.script_runs.specs.Calls.{Ended, Turn, ends_of, history_of}
 use Rattle.script_runs.specs.Counts.{run_tally}
 
@@ -35,4 +35,4 @@ run_lines turns = flat_map turn_lines turns
 -- the summary of a run: the player's calls, and all datagrams and replies
 abbrev pub summary : ℕ → List Turn → List ℕ
 summary filers turns =
-    play_line (play_tally (calls_of filers (history_of turns))) ++ tally_line (codes "all") (run_tally (ends_of turns) (flat_map call_replies (calls (history_of turns))))
+    play_lines (play_tally (calls_of filers (history_of turns))) ++ tally_line (codes "all") (run_tally (ends_of turns) (flat_map call_replies (calls (history_of turns))))

@@ -8,13 +8,13 @@ use Rattle.filer.specs.declared.run.FilerEnd.TheVariants as filer
 use Rattle.player.specs.declared.run.PlayerEnd.{PlayerEnd}
 use Rattle.player.specs.declared.run.PlayerEnd.TheVariants as player
 use Rattle.line_run.specs.declared.options.LineOptions.{LineOptions}
-use Rattle.gate_notes.specs.Notes.{counted, play_line, tally_line}
+use Rattle.gate_notes.specs.Notes.{counted, play_lines, tally_line}
 use Rattle.gate_notes.specs.declared.status.Status.{Status}
 use Rattle.gate_notes.specs.declared.status.Status.TheVariants.{Done, ReadFault, WriteFault, LinkFault}
 
--- the options of a line, as the words say them; its delay never grows
+-- the options of a line, as the words say them
 abbrev pub line_options : ServeOptions → LineOptions
-line_options o = record { g = o.ring; delay = o.delay; seed = o.seed; ticks = o.ticks; report = o.report; own = o.ssrc; sequence = o.sequence; stamp = o.stamp; elastic = 0 }
+line_options o = record { g = o.ring; delay = o.delay; seed = o.seed; ticks = o.ticks; report = o.report; own = o.ssrc; sequence = o.sequence; stamp = o.stamp; elastic = o.elastic }
 
 -- ---- the status
 
@@ -57,4 +57,4 @@ link_lines k (f ∷ fs) = tally_line (counted (codes "link ") k) f.1 ++ link_lin
 
 -- what the player's beats resulted in, and then the filers' datagrams
 abbrev pub serve_lines : PlayTally → List (FilerEnd × Tally) → List ℕ
-serve_lines played filers = play_line played ++ link_lines 0 filers
+serve_lines played filers = play_lines played ++ link_lines 0 filers

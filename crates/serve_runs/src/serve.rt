@@ -34,7 +34,7 @@ fn refused(status: Status) -> Served
     Served { status, end: None }
 }
 
-// The options of a line, as the words say them. Its delay never grows.
+// The options of a line, as the words say them.
 fn options_of(said: &ServeOptions) -> LineOptions
     ensures { result ≡ line_options said.now }
 {
@@ -47,7 +47,7 @@ fn options_of(said: &ServeOptions) -> LineOptions
         own: said.ssrc,
         sequence: said.sequence,
         stamp: said.stamp,
-        elastic: 0,
+        elastic: said.elastic,
     }
 }
 
