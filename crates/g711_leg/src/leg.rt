@@ -6,7 +6,7 @@ ghost use Rattle.g711_leg.specs.LegLaws.{leg_after, same_leg};
 ghost use Rattle.g711_leg.specs.Legs.{AnyRose, GoesOn, IsKin, NoneFell, au_head, leg_faults};
 
 use crate::law::Law;
-use crate::out::Out;
+use crate::outlet::Out;
 use gate_io::{Failed, Link, Sink};
 use std::marker::Model;
 

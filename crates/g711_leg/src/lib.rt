@@ -8,7 +8,7 @@ mod expanding;
 mod law;
 mod laws;
 mod leg;
-mod out;
+mod outlet;
 
 pub use au::au_head;
 pub use compressing::compress;
